@@ -1,0 +1,259 @@
+-- Demand 2's other sentences: FULL exactly for lack of room, states move by the tables, and what a cut format leaves.
+use mathlib.Core.Path.{_≡_, refl, sym, ap, _∙_, subst}
+use mathlib.Core.Logic.{_≢_, _↔_}
+use mathlib.Core.Bool.{Bool, true, false, cond}
+use mathlib.Core.List.{List, [], _∷_}
+use mathlib.Core.Option.{Option, none, some}
+use Prim.Native.Nat.{ℕ, zero, suc, _-_, _<_}
+use native.Mathlib.Omega.{arith}
+use native.Mathlib.Nat.{suc-ne-zero}
+use lib.Dec.{eqb, leb}
+use lib.ListN.{length, getD, set, take}
+use borrow.Author.Tests.{eqb-true, leb-false}
+use Rattle.words.specs.Words.{word, Store, lay, number}
+use Rattle.words.proofs.All.{All}
+use Rattle.rules.specs.declared.Geometry.{Geometry}
+use Rattle.rules.specs.declared.Backup.{Backup}
+use Rattle.rules.specs.declared.Backup.the-variants.{A}
+use Rattle.rules.specs.declared.Lookup.{Lookup}
+use Rattle.rules.specs.declared.Lookup.the-variants.{Entry, Nothing}
+use Rattle.rules.specs.declared.Place.{Place}
+use Rattle.rules.specs.declared.Place.the-variants.{Home, Checkpoint, Cache}
+use Rattle.rules.specs.declared.Number.{Number}
+use Rattle.rules.specs.declared.Number.the-variants as No
+use Rattle.rules.specs.Geometry.{markStart}
+use Rattle.rules.specs.TableWords.{wordOf, free, says, lookup, lowestFree}
+use Rattle.rules.specs.Board.{Board, Volatile, sizes, phaseOf, cacheOf, tableOf}
+use Rattle.rules.specs.Numbers.{numberOf, Check, _⇒_, firstOf, outside, inexact, commonChecks, outOfRange}
+use Rattle.rules.specs.Power.{Plan, refuse, carry, guard, Outcome, whole, cut, settle}
+use Rattle.rules.specs.Loads.{Spot, spotIn, blockIn, seen, loadNumber, loadPlan, peekNumber, peekPlan}
+use Rattle.rules.specs.Stores.{replaced, Move, to, notWellFormed, stores, moveIn, slotFor, full, storeNumber, layAt, moved, movedTo, storePlan}
+use Rattle.rules.specs.Checkpoints.{beginNumber, beginPlan, stepNumber, stepPlan}
+use Rattle.rules.specs.Starts.{formatList, formatNumber, formatPlan, finishedIn, recoverNumber, recoverFrom, recoverPlan}
+use Rattle.rules.specs.Calls.{Call, load, peek, store, begin, step, format, recover, plan, call}
+use Rattle.rules.specs.Promises.{NoEntry, NoneFree, FullExactly, StoreLeaves, RecoveryLeaves, Leaves, StatesMove, CutFormat}
+use Rattle.rules.proofs.Clashes.{none-some, or-false}
+use Rattle.rules.proofs.TableWordLaws.{says-word, says-zero, names-word, free-word}
+use Rattle.rules.proofs.Finding.{Finds, finds, found-at, found-lt, not-found}
+use Rattle.rules.proofs.Changing.{all-get}
+use Rattle.rules.proofs.FreeSlot.{VacantAt, vacant, vacant-at, vacant-lt}
+use Rattle.rules.proofs.Checked.{passed, sizes-passed, common-passed, Lent, exact-lent, in-range}
+use Rattle.rules.proofs.KeepsStore.{new, storesAt, laid-at, memory-at, spot-laid, cacheWith, Room, replaced-length, seen-length}
+use Rattle.rules.proofs.KeepsRest.{cut-mark}
+use Rattle.rules.proofs.Answers.{guard-accepted, carry-accepted, carry-nothing}
+
+-- ---- FULL
+
+-- the checks 1 to 6 passed, the number of a store is that of the check for room
+store-room : (board : Board) (block offset : ℕ) (bytes : List ℕ) → numberOf (loadNumber board block offset (length bytes)) ≡ 0
+    → storeNumber board block offset bytes ≡ cond (full (slotFor (lookup block (tableOf board)) (lowestFree (tableOf board)))) No.Full No.Done
+unfolding loadNumber storeNumber commonChecks firstOf numberOf
+store-room board block offset bytes e =
+    let a = common-passed board false ((outOfRange board block offset (length bytes) ⇒ No.Range) ∷ []) e in
+    let f = a .0 in
+    let r = passed (outOfRange board block offset (length bytes)) No.Range [] (suc-ne-zero 5) (a .1) .0 in
+    rw (f .fine, f .exact, f .count, f .awake, f .formed, r)
+
+carried-not-full : (p : ℕ) (board : Board) (ws : List Store) (after : Volatile) (gives : List ℕ) → numberOf (settle p board (carry ws after gives) .number) ≢ 7
+unfolding settle numberOf
+carried-not-full p board ws after gives = go (leb (length ws) p)
+  where
+    go : (t : Bool) → numberOf (cond t (whole board ws after gives) (cut p board ws after) .number) ≢ 7
+    go true e = omega arith
+    go false e = omega arith
+
+laid-not-full : (p : ℕ) (board : Board) (table fresh : List ℕ) (s : Spot) → numberOf (settle p board (layAt board table fresh s) .number) ≢ 7
+laid-not-full p board table fresh s e =
+    carried-not-full p board _ _ [] (ap (λ (q : Plan). numberOf (settle p board q .number)) (sym (laid-at board table fresh s)) ∙ e)
+
+moved-not-full : (p : ℕ) (board : Board) (block slot : ℕ) (fresh : List ℕ) (move : Move) → numberOf (settle p board (moved board block slot fresh move) .number) ≢ 7
+unfolding moved settle numberOf
+moved-not-full p board block slot fresh notWellFormed e = let h : _≡_ {A = ℕ} 5 7 = e in omega arith
+moved-not-full p board block slot fresh (to place state) e =
+    laid-not-full p board (set (tableOf board) slot (wordOf block state)) fresh (spotIn (sizes board) block slot place) e
+
+pub full-exactly : FullExactly
+unfolding FullExactly NoEntry NoneFree call plan storePlan guard movedTo slotFor full settle numberOf
+full-exactly p board block offset bytes e =
+    rw (store-room board block offset bytes e) (go (lookup block table) (finds block table) (lowestFree table) (vacant table))
+  where
+    table : List ℕ
+    table = tableOf board
+
+    fresh : List ℕ
+    fresh = replaced (seen board block) offset bytes
+
+    move : Move
+    move = moveIn (phaseOf board) (stores (lookup block table))
+
+    answer : Lookup → Option ℕ → ℕ
+    answer r z = numberOf (settle p board (guard (cond (full (slotFor r z)) No.Full No.Done) (movedTo board block (slotFor r z) fresh move)) .number)
+
+    no-entry : Finds block table Nothing → NoEntry block table
+    no-entry f slot state lt q = not-found slot f .never state (ap says q ∙ says-word block state)
+
+    none-free : All (λ w. says w ≢ free) table → NoneFree table
+    none-free a slot lt q = all-get slot a lt (ap says q ∙ says-zero)
+
+    go : (r : Lookup) → Finds block table r → (z : Option ℕ) → VacantAt table z → (answer r z ≡ 7) ↔ (NoEntry block table × NoneFree table)
+    go Nothing f none v = (λ h. (no-entry f, none-free v), λ h. refl)
+    go Nothing f (some slot) v =
+        (λ h. absurd (moved-not-full p board block slot fresh move h), λ h. absurd (h .1 slot (vacant-lt v) (free-word (getD table slot 0) (vacant-at v))))
+    go (Entry slot state) f z v =
+        (λ h. absurd (moved-not-full p board block slot fresh move h), λ h. absurd (h .0 slot state (found-lt f) (names-word (getD table slot 0) block state (found-at f))))
+
+-- ---- states move by the tables
+
+-- a call that isn't accepted leaves the table as at entry
+unaccepted : (p : ℕ) (board : Board) (q : Plan) → numberOf (settle p board q .number) ≢ 0 → tableOf (settle p board q .board) ≡ tableOf board
+unfolding settle numberOf
+unaccepted p board (refuse n) ne = refl
+unaccepted p board (carry ws after gives) ne = go (leb (length ws) p) ne
+  where
+    out : Bool → Outcome
+    out t = cond t (whole board ws after gives) (cut p board ws after)
+
+    go : (t : Bool) → numberOf (out t .number) ≢ 0 → tableOf (out t .board) ≡ tableOf board
+    go true ne = absurd (ne refl)
+    go false ne = refl
+
+-- an accepted plan behind its checks, as its whole outcome
+accepted-whole : (p : ℕ) (board : Board) (n : Number) (ws : List Store) (after : Volatile) (gives : List ℕ)
+    → numberOf (settle p board (guard n (carry ws after gives)) .number) ≡ 0
+    → (numberOf n ≡ 0) × (settle p board (guard n (carry ws after gives)) ≡ whole board ws after gives)
+accepted-whole p board n ws after gives e =
+    let a = guard-accepted p board n (carry ws after gives) e in
+    (a .0, a .1 ∙ carry-accepted p board ws after gives (ap (λ (z : Outcome). numberOf (z .number)) (sym (a .1)) ∙ e))
+
+module _ (p : ℕ) (board : Board) (block offset : ℕ) (bytes : List ℕ) where
+  abbrev fresh : List ℕ
+  fresh = replaced (seen board block) offset bytes
+
+  store-room-at : Lent (sizes board) board → block < sizes board .blocks → (slot : ℕ) → slot < sizes board .slots → (place : Place)
+      → Room (board .memory) (cacheOf board) (spotIn (sizes board) block slot place)
+  unfolding spotIn Room
+  store-room-at l lt slot ls Home = omega (arith, l .memory)
+  store-room-at l lt slot ls Checkpoint = omega (arith, l .memory)
+  store-room-at l lt slot ls Cache = omega (arith, l .cache)
+
+  -- a block laid at a spot, as the plan lays it
+  laid-leaves : (table : List ℕ) (s : Spot) → length fresh ≡ 64 → Room (board .memory) (cacheOf board) s
+      → numberOf (settle p board (layAt board table fresh s) .number) ≡ 0
+      → (tableOf (settle p board (layAt board table fresh s) .board) ≡ table)
+      × (blockIn (settle p board (layAt board table fresh s) .board .memory) (cacheOf (settle p board (layAt board table fresh s) .board)) s ≡ fresh)
+  laid-leaves table s e room h =
+      let after : Volatile = record { cache = cacheWith (cacheOf board) fresh s; table = table; controller = board .volatile .controller } in
+      let q = laid-at board table fresh s in
+      let o = ap (settle p board) q ∙ carry-accepted p board (storesAt fresh s) after [] (ap (λ (z : Plan). numberOf (settle p board z .number)) (sym q) ∙ h) in
+      subst (λ (z : Outcome). (tableOf (z .board) ≡ table) × (blockIn (z .board .memory) (cacheOf (z .board)) s ≡ fresh)) (sym o)
+      (refl, ap (λ (m : List ℕ). blockIn m (cacheWith (cacheOf board) fresh s) s) (memory-at (board .memory) fresh s) ∙ spot-laid (board .memory) (cacheOf board) fresh s e room)
+
+  moved-leaves : length fresh ≡ 64 → Lent (sizes board) board → block < sizes board .blocks
+      → (z : Option ℕ) → slotFor (lookup block (tableOf board)) (lowestFree (tableOf board)) ≡ z → ((slot : ℕ) → z ≡ some slot → slot < sizes board .slots)
+      → (move : Move) → moveIn (phaseOf board) (stores (lookup block (tableOf board))) ≡ move
+      → numberOf (settle p board (movedTo board block z fresh move) .number) ≡ 0
+      → StoreLeaves board block offset bytes (settle p board (movedTo board block z fresh move) .board)
+  unfolding movedTo moved settle numberOf
+  moved-leaves e l lt none q ls move m h = absurd (suc-ne-zero 6 h)
+  moved-leaves e l lt (some slot) q ls notWellFormed m h = absurd (suc-ne-zero 4 h)
+  moved-leaves e l lt (some slot) q ls (to place state) m h =
+      let r = laid-leaves (set (tableOf board) slot (wordOf block state)) (spotIn (sizes board) block slot place) e (store-room-at l lt slot (ls slot refl) place) h in
+      record { slot = slot; place = place; state = state; row = m; taken = q; table = r .0; new = r .1 }
+
+  slot-lt : (table : List ℕ) (r : Lookup) → Finds block table r → (z : Option ℕ) → VacantAt table z → (slot : ℕ) → slotFor r z ≡ some slot → slot < length table
+  unfolding slotFor
+  slot-lt table (Entry i state) f z v slot e = let q : i ≡ slot = cc in subst (λ (n : ℕ). n < length table) q (found-lt f)
+  slot-lt table Nothing f none v slot e = absurd (none-some slot e)
+  slot-lt table Nothing f (some i) v slot e = let q : i ≡ slot = cc in subst (λ (n : ℕ). n < length table) q (vacant-lt v)
+
+  store-leaves : numberOf (call p board (store block offset bytes) .number) ≡ 0 → StoreLeaves board block offset bytes (call p board (store block offset bytes) .board)
+  unfolding call plan storePlan storeNumber
+  store-leaves e =
+      let table = tableOf board in
+      let z = slotFor (lookup block table) (lowestFree table) in
+      let move = moveIn (phaseOf board) (stores (lookup block table)) in
+      let a = guard-accepted p board (storeNumber board block offset bytes) (movedTo board block z fresh move) e in
+      let own : List Check = (outOfRange board block offset (length bytes) ⇒ No.Range) ∷ (full z ⇒ No.Full) ∷ [] in
+      let c = common-passed board false own (a .0) in
+      let l = exact-lent (sizes board) board (or-false (inexact (sizes board) board) false (c .0 .exact) .0) in
+      let r = in-range board block offset (length bytes) (passed (outOfRange board block offset (length bytes)) No.Range ((full z ⇒ No.Full) ∷ []) (suc-ne-zero 5) (c .1) .0) in
+      subst (λ (o : Outcome). StoreLeaves board block offset bytes (o .board)) (sym (a .1))
+      (moved-leaves (replaced-length (seen board block) offset bytes (seen-length board l block (r .below)) (r .fits)) l (r .below) z refl
+      (λ slot q. subst (λ (n : ℕ). slot < n) (l .table) (slot-lt table (lookup block table) (finds block table) (lowestFree table) (vacant table) slot q)) move refl
+      (ap (λ (o : Outcome). numberOf (o .number)) (sym (a .1)) ∙ e))
+
+recovery-leaves : (p : ℕ) (board : Board) (g : Geometry) → numberOf (call p board (recover g) .number) ≡ 0 → RecoveryLeaves board g (call p board (recover g) .board)
+unfolding call plan recoverPlan
+recovery-leaves p board g e =
+    let finished = finishedIn g (board .memory) in
+    let a = guard-accepted p board (recoverNumber board g finished) (recoverFrom board g finished) e in
+    subst (λ (o : Outcome). RecoveryLeaves board g (o .board)) (sym (a .1)) (go finished refl (ap (λ (o : Outcome). numberOf (o .number)) (sym (a .1)) ∙ e))
+  where
+    go : (o : Option Backup) → finishedIn g (board .memory) ≡ o → numberOf (settle p board (recoverFrom board g o) .number) ≡ 0
+        → RecoveryLeaves board g (settle p board (recoverFrom board g o) .board)
+    go none q h = absurd (suc-ne-zero 9 h)
+    go (some backup) q h =
+        subst (λ (o : Outcome). RecoveryLeaves board g (o .board)) (sym (carry-nothing p board _ []))
+        (record { backup = backup; named = q; table = refl; registers = refl; memory = refl })
+
+pub states-move : StatesMove
+unfolding StatesMove Leaves call plan loadPlan peekPlan beginPlan stepPlan formatPlan
+states-move p board c = (accepted c, λ ne. refused-table c ne)
+  where
+    refused-table : (c : Call) → numberOf (call p board c .number) ≢ 0 → tableOf (call p board c .board) ≡ tableOf board
+    refused-table c ne = unaccepted p board (plan board c) ne
+
+    whole-table : (n : Number) (ws : List Store) (after : Volatile) (gives : List ℕ) → numberOf (settle p board (guard n (carry ws after gives)) .number) ≡ 0
+        → tableOf (settle p board (guard n (carry ws after gives)) .board) ≡ after .table
+    whole-table n ws after gives e = ap (λ (o : Outcome). tableOf (o .board)) (accepted-whole p board n ws after gives e .1)
+
+    accepted : (c : Call) → numberOf (call p board c .number) ≡ 0 → Leaves board c (call p board c .board)
+    accepted (load block offset len) e = whole-table (loadNumber board block offset len) _ _ _ e
+    accepted (peek block) e = whole-table (peekNumber board block) _ _ _ e
+    accepted (store block offset bytes) e = store-leaves p board block offset bytes e
+    accepted (begin registers) e = whole-table (beginNumber board registers) _ _ _ e
+    accepted (step n) e = whole-table (stepNumber board) _ _ _ e
+    accepted (format g fill) e = whole-table (formatNumber board g) _ _ _ e
+    accepted (recover g) e = recovery-leaves p board g e
+
+-- ---- a format that is cut
+
+format-refusal : (board : Board) (g : Geometry) → numberOf (formatNumber board g) ≢ 20
+unfolding formatNumber firstOf numberOf
+format-refusal board g = go (outside g) (inexact g board)
+  where
+    go : (a b : Bool) → numberOf (firstOf ((a ⇒ No.Geometry) ∷ (b ⇒ No.Buffer) ∷ [])) ≢ 20
+    go true b e = let h : _≡_ {A = ℕ} 1 20 = e in omega arith
+    go false true e = let h : _≡_ {A = ℕ} 2 20 = e in omega arith
+    go false false e = let h : _≡_ {A = ℕ} 0 20 = e in omega arith
+
+-- a cut plan passed its checks, and stored fewer words than its list has
+cut-passed : (p : ℕ) (board : Board) (n : Number) (ws : List Store) (after : Volatile) (gives : List ℕ) → numberOf n ≢ 20
+    → numberOf (settle p board (guard n (carry ws after gives)) .number) ≡ 20
+    → (numberOf n ≡ 0) × (p < length ws) × (settle p board (guard n (carry ws after gives)) .board .memory ≡ lay (take p ws) (board .memory))
+unfolding settle guard numberOf
+cut-passed p board n ws after gives ne = go (eqb (numberOf n) 0) refl
+  where
+    out : Bool → Outcome
+    out t = cond t (whole board ws after gives) (cut p board ws after)
+
+    carried : numberOf n ≡ 0 → (t : Bool) → leb (length ws) p ≡ t → numberOf (out t .number) ≡ 20
+        → (numberOf n ≡ 0) × (p < length ws) × (out t .board .memory ≡ lay (take p ws) (board .memory))
+    carried z true q e = let h : _≡_ {A = ℕ} 0 20 = e in absurd (omega arith)
+    carried z false q e = (z, leb-false (length ws) p q, refl)
+
+    go : (t : Bool) → eqb (numberOf n) 0 ≡ t → numberOf (settle p board (cond t (carry ws after gives) (refuse n)) .number) ≡ 20
+        → (numberOf n ≡ 0) × (p < length ws) × (settle p board (cond t (carry ws after gives) (refuse n)) .board .memory ≡ lay (take p ws) (board .memory))
+    go true q e = carried (eqb-true (numberOf n) 0 q) (leb (length ws) p) refl e
+    go false q e = absurd (ne e)
+
+pub cut-format : CutFormat
+unfolding CutFormat call plan formatPlan formatNumber
+cut-format p board g fill e =
+    let c = cut-passed p board (formatNumber board g) (formatList g fill) _ [] (format-refusal board g) e in
+    let l = sizes-passed board g [] (c .0) .1 in
+    (λ z. c .2 ∙ ap (λ (n : ℕ). lay (take n (formatList g fill)) (board .memory)) z, λ ne. rw (c .2) (later p ne (c .1) l))
+  where
+    later : (p : ℕ) → p ≢ 0 → p < length (formatList g fill) → Lent g board → number (word (lay (take p (formatList g fill)) (board .memory)) (markStart g)) ≡ 0
+    later zero ne h l = absurd (ne refl)
+    later (suc p) ne h l = cut-mark g fill (board .memory) (l .memory) p h

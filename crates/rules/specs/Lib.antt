@@ -1,0 +1,14 @@
+pub mod Geometry
+pub mod TableWords
+pub mod Board
+pub mod Numbers
+pub mod Power
+pub mod Loads
+pub mod Stores
+pub mod Checkpoints
+pub mod Starts
+pub mod Calls
+pub mod PlainMachine
+pub mod Runs
+pub mod Promises
+pub mod Lettered

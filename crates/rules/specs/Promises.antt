@@ -1,0 +1,147 @@
+-- Demands 2 and 3 as statements: what the assessor stamps. Their proofs are in proofs/Demand2.antt and proofs/Demand3.antt.
+use mathlib.Core.Path.{_≡_}
+use mathlib.Core.Logic.{_≢_, _↔_}
+use mathlib.Core.List.{List, map}
+use mathlib.Core.Option.{none, some}
+use Prim.Native.Nat.{ℕ, _+_, _-_, _≤_, _<_}
+use lib.ListN.{length, getD, set, take, drop, replicate}
+use Rattle.words.specs.Words.{word, words, lay, number}
+use Rattle.rules.specs.declared.Geometry.{Geometry}
+use Rattle.rules.specs.declared.Backup.{Backup}
+use Rattle.rules.specs.declared.State.{State}
+use Rattle.rules.specs.declared.Place.{Place}
+use Rattle.rules.specs.Geometry.{markStart}
+use Rattle.rules.specs.TableWords.{wordOf, lookup, lowestFree, changed}
+use Rattle.rules.specs.Board.{Board, Volatile, sizes, phaseOf, cacheOf, tableOf}
+use Rattle.rules.specs.Numbers.{numberOf}
+use Rattle.rules.specs.Power.{Outcome, stored}
+use Rattle.rules.specs.Loads.{spotIn, shows, blockIn, seen, loadNumber}
+use Rattle.rules.specs.Stores.{replaced, to, stores, moveIn, slotFor}
+use Rattle.rules.specs.Checkpoints.{begun}
+use Rattle.rules.specs.Starts.{finishedIn, registersIn, tableIn}
+use Rattle.rules.specs.Calls.{Call, load, peek, store, begin, step, format, recover, plan, call}
+use Rattle.rules.specs.PlainMachine.{Picture, Plain, formatted, note}
+use Rattle.rules.specs.Runs.{Event, Run, runs, Lengths, NoFormat, AllAllowed}
+
+-- ---- what is handed out
+
+-- what is handed out while a promise stands
+pub record Shows (board : Board) (plain : Plain) : Type 0 where
+  pub loads :
+      (p block offset len : ℕ) → numberOf (call p board (load block offset len) .number) ≡ 0
+      → call p board (load block offset len) .gives ≡ take len (drop offset (plain .live block))
+  pub peeks : (p block : ℕ) → numberOf (call p board (peek block) .number) ≡ 0 → call p board (peek block) .gives ≡ plain .live block
+
+-- ---- demand 3
+
+-- a recovery is accepted and gives every block and the registers of a picture: every load in range is then accepted and gives its bytes
+pub record Recovers (g : Geometry) (picture : Picture) (outcome : Outcome) : Type 0 where
+  pub accepted : numberOf (outcome .number) ≡ 0
+  pub blocks :
+      (block offset len : ℕ) → block < g .blocks → offset ≤ 63 → len ≢ 0 → offset + len ≤ 64 → (p : ℕ)
+      → (numberOf (call p (outcome .board) (load block offset len) .number) ≡ 0)
+      × (call p (outcome .board) (load block offset len) .gives ≡ take len (drop offset (picture .blocks block)))
+  pub registers : some (outcome .board .volatile .controller .registers) ≡ picture .registers
+
+-- the same of a memory, whatever the volatile memory holds
+pub record RecoversTo (g : Geometry) (picture : Picture) (memory : List ℕ) : Type 0 where
+  pub whatever :
+      (volatile : Volatile) → Lengths g volatile → (p : ℕ) → Recovers g picture (call p (record { memory = memory; volatile = volatile }) (recover g))
+
+-- a run whose board recovers to what is kept: now, and after any prefix of the word list of any further call but a format.
+-- Which picture is kept then is decided by the mark word being among the words stored, and by nothing else (`note`).
+pub record Safe (g : Geometry) (run : Run) : Type 0 where
+  pub plain : Plain
+  pub stands : run .promise ≡ some plain
+  -- its live blocks, of which a begin takes the picture, are what loads give
+  pub shows : Shows (run .board) plain
+  pub now : RecoversTo g (plain .kept) (run .board .memory)
+  -- a recovery without a loss of supply goes back too
+  pub without-loss : (p : ℕ) → Recovers g (plain .kept) (call p (run .board) (recover g))
+  pub inside :
+      (c : Call) → NoFormat c → (p : ℕ)
+      → let words = stored p (plan (run .board) c) in
+      RecoversTo g (note g plain c (numberOf (call p (run .board) c .number)) words .kept) (lay words (run .board .memory))
+
+-- one finished format on any memory contents, then any allowed events
+unfoldable pub Demand3 : Type 0
+Demand3 =
+    (g : Geometry) (fill p : ℕ) (before : Board)
+    → numberOf (call p before (format g fill) .number) ≡ 0
+    → (events : List Event)
+    → AllAllowed g events
+    → Safe g (runs events (record { board = call p before (format g fill) .board; promise = some (formatted fill) }))
+
+-- ---- demand 2
+
+-- any events at all, on any board at all: wherever an accepted format or recovery stands behind the board, loads give what it must give
+unfoldable pub Demand2 : Type 0
+Demand2 =
+    (board : Board) (events : List Event) (plain : Plain)
+    → runs events (record { board = board; promise = none }) .promise ≡ some plain
+    → Shows (runs events (record { board = board; promise = none }) .board) plain
+
+-- ---- demand 2: a store that passes the checks 1 to 6 is refused for lack of room exactly when there is none
+
+-- no slot holds an entry of the block
+unfoldable pub NoEntry : ℕ → List ℕ → Type 0
+NoEntry block table = (slot : ℕ) (state : State) → slot < length table → getD table slot 0 ≢ wordOf block state
+
+unfoldable pub NoneFree : List ℕ → Type 0
+NoneFree table = (slot : ℕ) → slot < length table → getD table slot 0 ≢ 0
+
+-- a load of the same range has the checks 1 to 6 and no others
+unfoldable pub FullExactly : Type 0
+unfolding NoEntry NoneFree
+FullExactly =
+    (p : ℕ) (board : Board) (block offset : ℕ) (bytes : List ℕ)
+    → numberOf (loadNumber board block offset (length bytes)) ≡ 0
+    → (numberOf (call p board (store block offset bytes) .number) ≡ 7) ↔ (NoEntry block (tableOf board) × NoneFree (tableOf board))
+
+-- ---- demand 2: block states move by the tables
+
+-- an accepted store: the row of the table of stores, the slot, the entry after it, and the new block at its place
+pub record StoreLeaves (board : Board) (block offset : ℕ) (bytes : List ℕ) (after : Board) : Type 0 where
+  pub slot : ℕ
+  pub place : Place
+  pub state : State
+  pub row : moveIn (phaseOf board) (stores (lookup block (tableOf board))) ≡ to place state
+  pub taken : slotFor (lookup block (tableOf board)) (lowestFree (tableOf board)) ≡ some slot
+  pub table : tableOf after ≡ set (tableOf board) slot (wordOf block state)
+  pub new : blockIn (after .memory) (cacheOf after) (spotIn (sizes board) block slot place) ≡ replaced (seen board block) offset bytes
+
+-- an accepted recovery: the table of the backup that the mark names
+pub record RecoveryLeaves (board : Board) (g : Geometry) (after : Board) : Type 0 where
+  pub backup : Backup
+  pub named : finishedIn g (board .memory) ≡ some backup
+  pub table : tableOf after ≡ tableIn g (board .memory) backup
+  pub registers : after .volatile .controller .registers ≡ registersIn g (board .memory) backup
+  -- it stores no nonvolatile word
+  pub memory : after .memory ≡ board .memory
+
+-- what an accepted call leaves in the table
+unfoldable pub Leaves : Board → Call → Board → Type 0
+Leaves board (load block offset len) after = tableOf after ≡ tableOf board
+Leaves board (peek block) after = tableOf after ≡ tableOf board
+Leaves board (store block offset bytes) after = StoreLeaves board block offset bytes after
+Leaves board (begin registers) after = tableOf after ≡ map (changed begun) (tableOf board)
+Leaves board (step n) after = tableOf after ≡ tableOf board
+Leaves board (format g fill) after = tableOf after ≡ replicate (g .slots) 0
+Leaves board (recover g) after = RecoveryLeaves board g after
+
+-- any call on any board: accepted it leaves the above, otherwise the table as at entry
+unfoldable pub StatesMove : Type 0
+unfolding Leaves
+StatesMove =
+    (p : ℕ) (board : Board) (c : Call)
+    → (numberOf (call p board c .number) ≡ 0 → Leaves board c (call p board c .board))
+    × (numberOf (call p board c .number) ≢ 0 → tableOf (call p board c .board) ≡ tableOf board)
+
+-- ---- a format that is cut: at p = 0 it leaves the old memory, later it leaves mark 0
+
+unfoldable pub CutFormat : Type 0
+CutFormat =
+    (p : ℕ) (board : Board) (g : Geometry) (fill : ℕ)
+    → numberOf (call p board (format g fill) .number) ≡ 20
+    → (p ≡ 0 → call p board (format g fill) .board .memory ≡ board .memory)
+    × (p ≢ 0 → number (word (call p board (format g fill) .board .memory) (markStart g)) ≡ 0)

@@ -1,0 +1,9 @@
+pub mod All
+pub mod Puts
+pub mod Lists
+pub mod Rising
+pub mod Makers
+pub mod Blocks
+pub mod Parts
+pub mod Laying
+pub mod Fills
