@@ -1,0 +1,26 @@
+-- The controller record as begin and step leave it, written out.
+use mathlib.Core.Bool.{cond}
+use mathlib.Core.List.{List}
+use Prim.Native.Nat.{ℕ, _+_}
+use lib.Dec.{eqb}
+use Rattle.rules.specs.declared.Phase.the-variants.{Running, Writing}
+use Rattle.rules.specs.declared.Controller.{Controller}
+use Rattle.rules.specs.Checkpoints.{other}
+
+-- the registers are kept, the phase is Writing with count 0
+abbrev pub begunRecord : Controller → List ℕ → Controller
+begunRecord controller registers = record {
+  geometry = controller .geometry;
+  registers = registers;
+  finished = controller .finished;
+  phase = Writing 0;
+}
+
+-- the count of words stored; with the mark stored the phase is Running and the finished backup has changed
+abbrev pub steppedRecord : Controller → ℕ → Controller
+steppedRecord controller count = record {
+  geometry = controller .geometry;
+  registers = controller .registers;
+  finished = cond (eqb count (controller .geometry .slots + 9)) (other (controller .finished)) (controller .finished);
+  phase = cond (eqb count (controller .geometry .slots + 9)) Running (Writing count);
+}

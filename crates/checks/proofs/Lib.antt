@@ -1,0 +1,4 @@
+pub mod Words
+pub mod Slots
+pub mod Passed
+pub mod Settled

@@ -1,0 +1,4 @@
+pub mod Answers
+pub mod Tables
+pub mod Ready
+pub mod Early

@@ -1,0 +1,4 @@
+pub mod Built
+pub mod Placed
+pub mod Planned
+pub mod Unique

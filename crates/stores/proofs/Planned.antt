@@ -1,0 +1,168 @@
+-- A store's number and its plan, from what its checks, its one lookup and its move found.
+use mathlib.Core.Path.{_≡_, refl, sym, ap, _∙_, subst}
+use mathlib.Core.Logic.{_≢_}
+use mathlib.Core.Bool.{Bool, true, false, not}
+use mathlib.Core.List.{List, [], _∷_, _++_, append-assoc}
+use mathlib.Core.Option.{Option, none, some}
+use Prim.Native.Nat.{ℕ, _<_}
+use native.Mathlib.Nat.{suc-ne-zero}
+use lib.Dec.{eqb}
+use lib.ListN.{length}
+use borrow.Author.Tests.{not-false}
+use Rattle.words.specs.Words.{blockAt}
+use Rattle.words.proofs.All.{All, done, also, all-append}
+use Rattle.rules.specs.declared.Controller.{Controller}
+use Rattle.rules.specs.declared.State.{State}
+use Rattle.rules.specs.declared.Lookup.{Lookup}
+use Rattle.rules.specs.declared.Lookup.the-variants.{Entry, Nothing}
+use Rattle.rules.specs.declared.Number.{Number}
+use Rattle.rules.specs.declared.Number.the-variants as No
+use Rattle.rules.specs.declared.Answer.{Answer}
+use Rattle.rules.specs.Geometry.{homeBlock}
+use Rattle.rules.specs.TableWords.{lookup, lowestFree}
+use Rattle.rules.specs.Board.{Board, boardOf, tableOf}
+use Rattle.rules.specs.Numbers.{numberOf, Check, _⇒_, firstOf, commonChecks, outOfRange}
+use Rattle.rules.specs.Power.{Plan, Outcome, guard, settle, outcomeOf}
+use Rattle.rules.specs.Loads.{spotIn, shows, spotOf, blockIn, visible, seen, loadNumber}
+use Rattle.rules.specs.Stores.{replaced, stores, moveIn, slotFor, full, storeNumber, moved, movedTo, storePlan}
+use Rattle.rules.specs.Stores as S
+use Rattle.rules.specs.Calls.{store, plan, call}
+use Rattle.rules.proofs.FreeSlot.{VacantAt, vacant, vacant-lt}
+use Rattle.checks.specs.declared.table.FreeSlot.{FreeSlot}
+use Rattle.checks.specs.declared.table.FreeSlot.the-variants as F
+use Rattle.checks.specs.Tables.{slotOf}
+use Rattle.checks.specs.Answers.{refusedOf}
+use Rattle.checks.proofs.Passed.{hit, miss, none-applies, accepting, stopped, Refuses, refuses, go-on, common-refuses}
+use Rattle.checks.proofs.Settled.{guard-on, refused-is}
+use Rattle.loads.proofs.Laws.{load-checks}
+
+-- ---- the slot
+
+pub free-lt : (slot : ℕ) (table : List ℕ) → some slot ≡ lowestFree table → slot < length table
+free-lt slot table e = vacant-lt (subst (VacantAt table) (sym e) (vacant table))
+
+pub slot-entry : {found : Lookup} (slot : ℕ) (state : State) (lowest : Option ℕ) → found ≡ Entry slot state → slotFor found lowest ≡ some slot
+unfolding slotFor
+slot-entry slot state lowest e = rw e
+
+pub slot-new : {found : Lookup} (lowest : Option ℕ) → found ≡ Nothing → slotFor found lowest ≡ lowest
+unfolding slotFor
+slot-new lowest e = rw e
+
+pub free-at : {free : FreeSlot} {lowest : Option ℕ} (slot : ℕ) → slotOf free ≡ lowest → free ≡ F.At slot → some slot ≡ lowest
+free-at slot e f = sym (ap slotOf f) ∙ e
+
+pub free-none : {free : FreeSlot} {lowest : Option ℕ} → slotOf free ≡ lowest → free ≡ F.Nothing → none ≡ lowest
+free-none e f = sym (ap slotOf f) ∙ e
+
+-- ---- 7 FULL
+
+pub not-full : {o : Option ℕ} (slot : ℕ) → o ≡ some slot → false ≡ full o
+unfolding full
+not-full slot e = rw e
+
+pub is-full : {o : Option ℕ} → o ≡ none → true ≡ full o
+unfolding full
+is-full e = rw e
+
+-- ---- the number: that of a load of the range, then FULL
+
+module _ (board : Board) (block offset : ℕ) (bytes : List ℕ) where
+  abbrev taken : Option ℕ
+  taken = slotFor (lookup block (tableOf board)) (lowestFree (tableOf board))
+
+  abbrev range : List Check
+  range = commonChecks board false ++ (outOfRange board block offset (length bytes) ⇒ No.Range) ∷ []
+
+  abbrev last : List Check
+  last = (full taken ⇒ No.Full) ∷ []
+
+  in-two : firstOf (range ++ last) ≡ storeNumber board block offset bytes
+  unfolding storeNumber
+  in-two = ap firstOf (append-assoc (commonChecks board false) ((outOfRange board block offset (length bytes) ⇒ No.Range) ∷ []) last)
+
+  pub store-stops : {n : Number} → n ≡ loadNumber board block offset (length bytes) → numberOf n ≢ 0 → n ≡ storeNumber board block offset bytes
+  store-stops e ne = stopped range last (e ∙ sym (load-checks board block offset (length bytes))) ne ∙ in-two
+
+  range-refuses : All Refuses range
+  unfolding numberOf
+  range-refuses = all-append (common-refuses board false) (also (refuses (suc-ne-zero 5)) done)
+
+  goes : numberOf (loadNumber board block offset (length bytes)) ≡ 0 → firstOf last ≡ storeNumber board block offset bytes
+  goes e = sym (go-on last range-refuses (ap numberOf (load-checks board block offset (length bytes)) ∙ e)) ∙ in-two
+
+  pub store-full : numberOf (loadNumber board block offset (length bytes)) ≡ 0 → true ≡ full taken → No.Full ≡ storeNumber board block offset bytes
+  store-full e f = hit [] (sym f) ∙ goes e
+
+  pub store-done : numberOf (loadNumber board block offset (length bytes)) ≡ 0 → false ≡ full taken → No.Done ≡ storeNumber board block offset bytes
+  store-done e f = miss No.Full [] (sym f) none-applies ∙ goes e
+
+-- checks 1 to 6 are passed
+pub load-accepted : (board : Board) (block offset len : ℕ) {n : Number} {accepted : Bool} → n ≡ loadNumber board block offset len
+    → accepted ≡ eqb (numberOf n) 0 → not accepted ≡ false → numberOf (loadNumber board block offset len) ≡ 0
+load-accepted board block offset len {n} {accepted} e a h = sym (ap numberOf e) ∙ accepting n a (not-false accepted h)
+
+-- ---- the plan
+
+module _ (p : ℕ) (memory cache table : List ℕ) (controller : Controller) (block offset : ℕ) (bytes : List ℕ) where
+  abbrev board : Board
+  board = boardOf memory cache table controller
+
+  -- what the store plans once its number is found, for what the lookup found
+  abbrev carried : Lookup → Plan
+  carried found =
+      movedTo board block (slotFor found (lowestFree table)) (replaced (blockIn memory cache (spotOf (controller .geometry) block found)) offset bytes)
+      (moveIn (controller .phase) (stores found))
+
+  guarded : call p board (store block offset bytes) ≡ settle p board (guard (storeNumber board block offset bytes) (carried (lookup block table)))
+  unfolding call plan storePlan seen visible
+  guarded = refl
+
+  pub store-refused : {n : Number} {answer : Answer} → n ≡ storeNumber board block offset bytes → numberOf n ≢ 0 → answer ≡ refusedOf n controller
+      → call p board (store block offset bytes) ≡ outcomeOf answer memory cache table
+  store-refused {n} {answer} e ne a =
+      guarded ∙ refused-is p memory cache table controller (carried (lookup block table)) n (storeNumber board block offset bytes) answer e ne a
+
+  pub store-goes : {found : Lookup} {slot : ℕ} {fresh : List ℕ} {next : S.Move} {outcome : Outcome}
+      → numberOf (loadNumber board block offset (length bytes)) ≡ 0
+      → found ≡ lookup block table
+      → slotFor found (lowestFree table) ≡ some slot
+      → fresh ≡ replaced (blockIn memory cache (spotOf (controller .geometry) block found)) offset bytes
+      → next ≡ moveIn (controller .phase) (stores found)
+      → settle p board (moved board block slot fresh next) ≡ outcome
+      → call p board (store block offset bytes) ≡ outcome
+  unfolding movedTo numberOf
+  store-goes {found} {slot} {fresh} {next} n e s f m q =
+      let row = moveIn (controller .phase) (stores found) in
+      let built = replaced (blockIn memory cache (spotOf (controller .geometry) block found)) offset bytes in
+      let room = not-full slot (ap (λ (z : Lookup). slotFor z (lowestFree table)) (sym e) ∙ s) in
+      guarded
+      ∙ guard-on p board (carried (lookup block table)) No.Done (storeNumber board block offset bytes) (store-done board block offset bytes n room) refl
+      ∙ ap (λ (z : Lookup). settle p board (carried z)) (sym e)
+      ∙ ap (λ (z : Option ℕ). settle p board (movedTo board block z built row)) s
+      ∙ ap (λ (z : List ℕ). settle p board (moved board block slot z row)) (sym f)
+      ∙ ap (λ (z : S.Move). settle p board (moved board block slot fresh z)) (sym m)
+      ∙ q
+
+  -- by its entry
+  pub store-entry : (slot : ℕ) (state : State) {fresh : List ℕ} {next : S.Move} {outcome : Outcome}
+      → numberOf (loadNumber board block offset (length bytes)) ≡ 0
+      → Entry slot state ≡ lookup block table
+      → fresh ≡ replaced (blockIn memory cache (spotIn (controller .geometry) block slot (shows state))) offset bytes
+      → next ≡ moveIn (controller .phase) (stores (Entry slot state))
+      → settle p board (moved board block slot fresh next) ≡ outcome
+      → call p board (store block offset bytes) ≡ outcome
+  unfolding slotFor spotOf
+  store-entry slot state n e f m q = store-goes n e refl f m q
+
+  -- without one
+  pub store-new : (slot : ℕ) {fresh : List ℕ} {next : S.Move} {outcome : Outcome}
+      → numberOf (loadNumber board block offset (length bytes)) ≡ 0
+      → Nothing ≡ lookup block table
+      → some slot ≡ lowestFree table
+      → fresh ≡ replaced (blockAt memory (homeBlock (controller .geometry) block)) offset bytes
+      → next ≡ moveIn (controller .phase) (stores Nothing)
+      → settle p board (moved board block slot fresh next) ≡ outcome
+      → call p board (store block offset bytes) ≡ outcome
+  unfolding slotFor spotOf blockIn
+  store-new slot n e s f m q = store-goes n e (sym s) f m q

@@ -1,0 +1,118 @@
+// Store: 1 to 64 bytes of one block replaced (document 01, Stores).
+ghost use mathlib.Core.Path.{_≡_};
+ghost use Rattle.rules.specs.TableWords as W;
+ghost use Rattle.rules.specs.Board.{boardOf};
+ghost use Rattle.rules.specs.Power.{outcomeOf};
+ghost use Rattle.rules.specs.Stores as S;
+ghost use Rattle.rules.specs.Calls as C;
+use building::built_entry;
+use building::built_home;
+use checks::answers::refused;
+use checks::numbers::accepted;
+use checks::table::FreeSlot;
+use checks::table::seat_for;
+use loads::load_number;
+use moves::move_entry;
+use moves::move_new;
+use placing::store_at;
+use rules::Answer;
+use rules::Controller;
+use rules::Lookup;
+use rules::Number;
+
+pub mod building;
+pub mod moves;
+pub mod placing;
+
+// The table is walked twice: for its words' form, and once for all that the store needs of it.
+pub fn store(
+    memory: &mut [u8],
+    cache: &mut [u8],
+    table: &mut [u64],
+    controller: Controller,
+    block: usize,
+    offset: usize,
+    bytes: &[u8],
+    p: usize,
+) -> Answer
+    ensures { λ r. ⌜ C.call p (boardOf (now (memory .entry)) (now (cache .entry)) (now (table .entry)) controller) (C.store block offset (now (bytes .entry))) ≡ outcomeOf r (now (memory .exit)) (now (cache .exit)) (now (table .exit)) ⌝ }
+{
+    let number = load_number(memory, cache, table, controller, block, offset, bytes.len());
+    if !accepted(number) {
+        return refused(number, controller);
+    }
+    let g = controller.geometry;
+    let phase = controller.phase;
+    let seat = seat_for(table, block);
+    let found = seat.found;
+    let Lookup::Entry { slot, state } = found else {
+        let free = seat.free;
+        let FreeSlot::At(slot) = free else {
+            return refused(Number::Full, controller);
+        };
+        let next = move_new(phase);
+        let fresh = built_home(memory, g, block, offset, bytes);
+        return store_at(
+            memory,
+            cache,
+            table,
+            controller,
+            block,
+            slot,
+            &fresh,
+            next,
+            p,
+        );
+    };
+    let next = move_entry(phase, state);
+    let fresh = built_entry(memory, cache, g, block, slot, state, offset, bytes);
+    store_at(
+        memory,
+        cache,
+        table,
+        controller,
+        block,
+        slot,
+        &fresh,
+        next,
+        p,
+    )
+}
+
+// The number of a store that isn't cut.
+pub fn store_number(
+    memory: &[u8],
+    cache: &[u8],
+    table: &[u64],
+    controller: Controller,
+    block: usize,
+    offset: usize,
+    bytes: &[u8],
+) -> Number
+    ensures { λ r. ⌜ r ≡ S.storeNumber (boardOf (now (memory .entry)) (now (cache .entry)) (now (table .entry)) controller) block offset (now (bytes .entry)) ⌝ }
+{
+    let number = load_number(memory, cache, table, controller, block, offset, bytes.len());
+    if !accepted(number) {
+        return number;
+    }
+    if full(table, block) {
+        return Number::Full;
+    }
+    Number::Done
+}
+
+// 7 FULL
+pub fn full(table: &[u64], block: usize) -> bool
+    ensures { λ r. ⌜ r ≡ S.full (S.slotFor (W.lookup block (now (table .entry))) (W.lowestFree (now (table .entry)))) ⌝ }
+{
+    let seat = seat_for(table, block);
+    let found = seat.found;
+    let Lookup::Entry { .. } = found else {
+        let free = seat.free;
+        let FreeSlot::At(_) = free else {
+            return true;
+        };
+        return false;
+    };
+    false
+}
