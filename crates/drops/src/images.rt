@@ -1,0 +1,149 @@
+// Images of a board: its blocks as loads give them, taken, copied and compared.
+use checks::numbers::accepted;
+use rules::Controller;
+use trace::lending::load_lent;
+use words::least;
+
+// Where one is longer, the shorter decides.
+pub fn copy_bytes(from: &[u8], into: &mut [u8]) {
+    let end = least(from.len(), into.len());
+    let mut i = 0;
+    while i < end {
+        into[i] = from[i];
+        i += 1;
+    }
+}
+
+pub fn copy_table(from: &[u64], into: &mut [u64]) {
+    let end = least(from.len(), into.len());
+    let mut slot = 0;
+    while slot < end {
+        into[slot] = from[slot];
+        slot += 1;
+    }
+}
+
+pub fn same_bytes(found: &[u8], wanted: &[u8]) -> bool {
+    if found.len() != wanted.len() {
+        return false;
+    }
+    let mut i = 0;
+    while i < found.len() {
+        if found[i] != wanted[i] {
+            return false;
+        }
+        i += 1;
+    }
+    true
+}
+
+// Whether the load was accepted.
+fn load_block(
+    memory: &[u8; 5512],
+    cache: &[u8; 1024],
+    table: &[u64; 16],
+    controller: Controller,
+    block: usize,
+    into: &mut [u8],
+) -> bool {
+    let number = load_lent(memory, cache, table, controller, block, 0, into);
+    accepted(number)
+}
+
+fn take_block(
+    memory: &[u8; 5512],
+    cache: &[u8; 1024],
+    table: &[u64; 16],
+    controller: Controller,
+    block: usize,
+    image: &mut [u8],
+) {
+    if 64 <= block {
+        return;
+    }
+    let start = 64 * block;
+    let end = start + 64;
+    if end <= image.len() {
+        load_block(
+            memory,
+            cache,
+            table,
+            controller,
+            block,
+            &mut image[start..end],
+        );
+    }
+}
+
+// What loads give of all blocks. A load beyond the board's blocks is refused and leaves its part of the image.
+pub fn take_image(
+    memory: &[u8; 5512],
+    cache: &[u8; 1024],
+    table: &[u64; 16],
+    controller: Controller,
+    image: &mut [u8; 4096],
+) {
+    let mut block = 0;
+    while block < 64 {
+        take_block(memory, cache, table, controller, block, image);
+        block += 1;
+    }
+}
+
+fn same_block(
+    memory: &[u8; 5512],
+    cache: &[u8; 1024],
+    table: &[u64; 16],
+    controller: Controller,
+    block: usize,
+    image: &[u8],
+) -> bool {
+    if 64 <= block {
+        return false;
+    }
+    let mut bytes = [0u8; 64];
+    if !load_block(memory, cache, table, controller, block, &mut bytes) {
+        return false;
+    }
+    let start = 64 * block;
+    let end = start + 64;
+    if image.len() < end {
+        return false;
+    }
+    same_bytes(&bytes, &image[start..end])
+}
+
+fn same_blocks(
+    memory: &[u8; 5512],
+    cache: &[u8; 1024],
+    table: &[u64; 16],
+    controller: Controller,
+    image: &[u8; 4096],
+) -> bool {
+    let g = controller.geometry;
+    let blocks = g.blocks as usize;
+    let mut block = 0;
+    while block < blocks {
+        if !same_block(memory, cache, table, controller, block, image) {
+            return false;
+        }
+        block += 1;
+    }
+    true
+}
+
+// Whether the board reads as the image and its registers.
+pub fn reads_as(
+    memory: &[u8; 5512],
+    cache: &[u8; 1024],
+    table: &[u64; 16],
+    controller: Controller,
+    image: &[u8; 4096],
+    registers: [u8; 64],
+) -> bool {
+    let found = controller.registers;
+    if !same_bytes(&found, &registers) {
+        return false;
+    }
+    same_blocks(memory, cache, table, controller, image)
+}

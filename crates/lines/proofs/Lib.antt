@@ -1,0 +1,3 @@
+pub mod Places
+pub mod Digits
+pub mod Pieces

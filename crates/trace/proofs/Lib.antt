@@ -1,0 +1,6 @@
+pub mod Sizes
+pub mod Lent
+pub mod Lines
+pub mod Turned
+pub mod Unique
+pub mod Example

@@ -1,0 +1,3 @@
+pub mod Asking
+pub mod Lending
+pub mod Trace
