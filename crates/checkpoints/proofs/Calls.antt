@@ -118,6 +118,11 @@ module _ (memory cache table : List ℕ) (controller : Controller) (registers : 
         eight = eqb-true (length registers) 64 (not-false (eqb (length registers) 64) (passed .fit));
       }
 
+  -- what a begin knows behind its last check
+  pub begin-known : (n : Number) (ok : Bool) → n ≡ firstOf (commonChecks Board₁ unfitting) → ok ≡ eqb (numberOf n) 0 → {held : Bool} → not ok ≡ false
+      → held ≡ isWriting (controller .phase) → held ≡ false → Begins
+  begin-known n ok e o t h q = begins (begin-accepted n ok e o t h q) (sym h ∙ q)
+
   module _ (p : ℕ) where
     pub begin-refused : (n : Number) (answer : Answer) → n ≡ R.beginNumber Board₁ registers → numberOf n ≢ 0 → answer ≡ refusedOf n controller
         → call p Board₁ (begin registers) ≡ outcomeOf answer memory cache table
@@ -172,6 +177,11 @@ module _ (memory cache table : List ℕ) (controller : Controller) where
   pub steps : No.Done ≡ R.stepNumber Board₂ → Passed memory cache table controller false
   unfolding numberOf
   steps e = common-passed memory cache table controller false ((isRunning (controller .phase) ⇒ No.Idle) ∷ []) (ap numberOf (step-number ∙ sym e)) .0
+
+  -- what a step knows behind its last check: its number, and the board
+  pub step-known : (n : Number) (ok : Bool) → n ≡ firstOf (commonChecks Board₂ false) → ok ≡ eqb (numberOf n) 0 → {held : Bool} → not ok ≡ false
+      → held ≡ isRunning (controller .phase) → held ≡ false → (No.Done ≡ R.stepNumber Board₂) × Passed memory cache table controller false
+  step-known n ok e o t h q = let d = step-accepted n ok e o t h q in (d, steps d)
 
   module _ (p most : ℕ) where
     pub step-refused : (n : Number) (answer : Answer) → n ≡ R.stepNumber Board₂ → numberOf n ≢ 0 → answer ≡ refusedOf n controller

@@ -1,26 +1,25 @@
 -- Begin over all slots: the list of copies slot by slot, and the table changed word by word.
-use mathlib.Core.Path.{_≡_, refl, sym, ap, _∙_, subst}
+use mathlib.Core.Path.{_≡_, refl, sym, ap, _∙_}
 use mathlib.Core.List.{List, [], _∷_, _++_, map, append-assoc, append-nil}
 use mathlib.Core.Bool.{Bool, true}
 use Prim.Native.Nat.{ℕ, zero, suc, _+_, _*_, _-_, _≤_, _<_}
 use native.Mathlib.Omega.{arith}
 use native.Mathlib.Nat.{add-zero}
 use native.Mathlib.Numerals.{add-one}
-use lib.ListN.{length, take, drop, getD, set, length-append, length-take, length-drop, drop-of-length-le}
+use lib.ListN.{length, take, drop, getD, set, length-append, length-take, drop-of-length-le}
 use lib.Seq.{take-all, take-nil, take-take, take-suc}
 use Rattle.words.specs.Words.{Store, Lays, lay, bytesTo, blockAt}
 use Rattle.words.proofs.Lists.{lay-append}
 use Rattle.words.proofs.Laying.{lays-then}
-use Rattle.words.proofs.Makers.{bytesTo-laid}
 use Rattle.words.proofs.Blocks.{block-part}
-use Rattle.words.proofs.Parts.{tail-part, shifted-bytesTo, lays-part}
+use Rattle.words.proofs.Parts.{tail-part}
 use Rattle.rules.specs.declared.Geometry.{Geometry}
 use Rattle.rules.specs.TableWords.{says, every}
 use Rattle.rules.specs.Checkpoints.{copiedTo, copyOf, copies}
 use Rattle.rules.proofs.Changing.{every-all, all-get}
 use Rattle.checkpoints.proofs.Words.{few-words}
 
--- ---- one copy, laid in a part of the memory
+-- ---- the bytes of a CACHE block
 
 drop-take : {A : Type 0} (a b : ℕ) (xs : List A) → drop a (take (a + b) xs) ≡ take b (drop a xs)
 drop-take zero b xs = let e : 0 + b ≡ b = omega arith in rw e
@@ -35,24 +34,14 @@ bytesTo-take (suc n) place bytes =
     let e : 8 * suc n ≡ 8 + 8 * n = omega arith in
     rw (e, take-take 8 (8 + 8 * n) bytes (omega arith), drop-take 8 (8 * n) bytes, bytesTo-take n (suc place) (drop 8 bytes))
 
-pub block-copied : (memory cache : List ℕ) (start place slot p : ℕ) {part′ : List ℕ} {r : ℕ}
-    → 8 * (start + (place + 8)) ≤ length memory → 64 * slot + 64 ≤ length cache
-    → Lays p (bytesTo place 8 (take (length cache - 64 * slot) (drop (64 * slot) cache))) (take (length memory - 8 * start) (drop (8 * start) memory)) part′ r
-    → Lays p (bytesTo (start + place) 8 (blockAt cache slot)) memory
-    (take (8 * start) memory ++ (part′ ++ drop (length memory - 8 * start) (drop (8 * start) memory))) r
-block-copied memory cache start place slot p {part′} {r} h k l =
-    let from : List ℕ = take (length cache - 64 * slot) (drop (64 * slot) cache) in
-    let e : bytesTo (start + place) 8 from ≡ bytesTo (start + place) 8 (blockAt cache slot) =
-    ap (bytesTo (start + place) 8) (tail-part (64 * slot) cache)
-    ∙ sym (bytesTo-take 8 (start + place) (drop (64 * slot) cache))
-    ∙ ap (bytesTo (start + place) 8) (sym (block-part cache slot))
-    in
-    subst (λ (z : List Store). Lays p z memory (take (8 * start) memory ++ (part′ ++ drop (length memory - 8 * start) (drop (8 * start) memory))) r)
-    (shifted-bytesTo start 8 place from ∙ e)
-    (lays-part memory (8 * start) start (length memory - 8 * start) refl (omega arith)
-    (bytesTo-laid 8 place from (length memory - 8 * start) (simp (length-take, length-drop) (omega arith)) (omega arith) .fits) l)
+pub tail-block : (cache : List ℕ) (slot place : ℕ) → bytesTo place 8 (take (length cache - 64 * slot) (drop (64 * slot) cache)) ≡ bytesTo place 8 (blockAt cache slot)
+tail-block cache slot place =
+    ap (bytesTo place 8) (tail-part (64 * slot) cache) ∙ sym (bytesTo-take 8 place (drop (64 * slot) cache)) ∙ ap (bytesTo place 8) (sym (block-part cache slot))
 
 -- ---- the list, slot by slot
+
+pub mul-sum : (a b : ℕ) → 8 * (a + b) ≡ 8 * a + 8 * b
+mul-sum a b = omega arith
 
 pub slot-formed : (test : ℕ → Bool) (table : List ℕ) (slot : ℕ) → every test table ≡ true → slot < length table → test (getD table slot 0) ≡ true
 slot-formed test table slot e h = all-get slot (every-all test table e) h

@@ -1,2 +1,3 @@
 pub mod Records
+pub mod Copies
 pub mod Backups

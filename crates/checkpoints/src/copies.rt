@@ -12,10 +12,12 @@ ghost use Rattle.rules.specs.Numbers.{wellFormed, allows};
 ghost use Rattle.rules.specs.Checkpoints as R;
 ghost use Rattle.checks.specs.Ready.{Ready};
 ghost use Rattle.checkpoints.specs.Records.{begunRecord};
+ghost use Rattle.checkpoints.specs.Copies.{targetOf, Slotted};
 use rules::Controller;
 use rules::Geometry;
 use rules::Phase;
 use words::copy_part;
+use words::lay_block;
 use words::lay_bytes;
 use words::left_of;
 
@@ -32,31 +34,28 @@ pub fn begun_word(word: u64) -> u64
     }
 }
 
-// The CACHE block of a slot, to a block of the part that starts at word `start`.
-pub fn copy_block(
-    memory: &mut [u8],
-    start: usize,
-    block: usize,
-    cache: &[u8],
-    slot: usize,
-    p: usize,
-) -> usize
-    requires { ⌜ (8 * (start + (8 * block + 8)) ≤ length (now memory)) × (64 * slot + 64 ≤ length (now cache)) ⌝ }
-    ensures { λ r. ⌜ Lays p (bytesTo (start + 8 * block) 8 (blockAt (now (cache .entry)) slot)) (now (memory .entry)) (now (memory .exit)) r ⌝ }
-{
-    let first = 8 * start;
-    let from = 64 * slot;
-    let place = 8 * block;
-    lay_bytes(
-        &mut memory[first..],
-        place,
-        &cache[from..],
-        Geometry::BLOCK_WORDS,
-        p,
-    )
+pub enum Target {
+    Block(usize),
+    Nothing,
 }
 
-// Pre-hidden copies CACHE to HOME, pre-dirty CACHE to CHECKPOINT.
+// The block of the memory to which begin copies a slot's CACHE block: pre-hidden to HOME, pre-dirty to CHECKPOINT.
+pub fn copied_to(g: Geometry, slot: usize, word: u64) -> Target
+    requires { ⌜ slot ≤ 512 ⌝ }
+    ensures { λ r. ⌜ targetOf r ≡ R.copiedTo g slot (says word) ⌝ }
+{
+    let code = word % 256;
+    if code == 4 {
+        let block = word / 256;
+        return Target::Block(block as usize);
+    }
+    if code == 5 {
+        return Target::Block((g.blocks as usize) + slot);
+    }
+    Target::Nothing
+}
+
+// A slot's copy under an allowance.
 pub fn copy_slot(
     memory: &mut [u8],
     cache: &[u8],
@@ -65,18 +64,29 @@ pub fn copy_slot(
     word: u64,
     p: usize,
 ) -> usize
-    requires { ⌜ (wellFormed (allows P.Running) g word ≡ true) × (64 * (g .blocks + slot) + 64 ≤ length (now memory)) × (64 * slot + 64 ≤ length (now cache)) ⌝ }
+    requires { ⌜ Slotted g slot word (length (now memory)) (length (now cache)) ⌝ }
     ensures { λ r. ⌜ Lays p (R.copyOf (now (cache .entry)) slot (R.copiedTo g slot (says word))) (now (memory .entry)) (now (memory .exit)) r ⌝ }
 {
-    let code = word % 256;
-    if code == 4 {
-        let block = word / 256;
-        return copy_block(memory, g.home_start(), block as usize, cache, slot, p);
-    }
-    if code == 5 {
-        return copy_block(memory, g.checkpoint_start(), slot, cache, slot, p);
-    }
-    0
+    let target = copied_to(g, slot, word);
+    let Target::Block(block) = target else {
+        return 0;
+    };
+    let from = 64 * slot;
+    lay_bytes(memory, 8 * block, &cache[from..], Geometry::BLOCK_WORDS, p)
+}
+
+// A slot's copy where the allowance is enough: all 64 bytes are read before the first is stored.
+pub fn copy_whole(memory: &mut [u8], cache: &[u8], g: Geometry, slot: usize, word: u64) -> usize
+    requires { ⌜ Slotted g slot word (length (now memory)) (length (now cache)) ⌝ }
+    ensures { λ r. ⌜ Lays 8 (R.copyOf (now (cache .entry)) slot (R.copiedTo g slot (says word))) (now (memory .entry)) (now (memory .exit)) r ⌝ }
+{
+    let target = copied_to(g, slot, word);
+    let Target::Block(block) = target else {
+        return 0;
+    };
+    let mut kept = [0u8; 64];
+    copy_part(cache, 64 * slot, &mut kept);
+    lay_block(memory, 8 * block, &kept)
 }
 
 // The copies of all slots under an allowance, for a begin that is cut: its table stays.
@@ -102,8 +112,8 @@ pub fn begin_slots(memory: &mut [u8], cache: &[u8], table: &mut [u64], g: Geomet
     let mut slot = 0;
     while slot < table.len() {
         let word = table[slot];
-        copy_slot(memory, cache, g, slot, word, Geometry::BLOCK_WORDS);
         table[slot] = begun_word(word);
+        copy_whole(memory, cache, g, slot, word);
         slot += 1;
     }
 }

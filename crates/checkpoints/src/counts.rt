@@ -1,23 +1,28 @@
 // Begin's checks and the length of its list, found in one walk of the table (document 01, Numbers returned, Power).
 ghost use mathlib.Core.Path.{_≡_};
+ghost use mathlib.Core.Bool.{true};
 ghost use mathlib.Core.List.{List};
-ghost use Prim.Native.Nat.{ℕ, _≤_};
+ghost use Prim.Native.Nat.{ℕ, _*_, _≤_};
 ghost use lib.ListN.{length};
 ghost use Rattle.rules.specs.declared.Geometry as G;
 ghost use Rattle.rules.specs.Board.{boardOf};
 ghost use Rattle.rules.specs.TableWords.{says, every};
 ghost use Rattle.rules.specs.Numbers as N;
 ghost use Rattle.rules.specs.Checkpoints as R;
+ghost use Rattle.checks.specs.Tables.{FormedWord};
+use checks::forms::all_formed;
+use checks::forms::flaws;
+use checks::forms::margin;
+use checks::forms::watched;
 use checks::numbers::accepted;
 use checks::numbers::early_number;
 use checks::numbers::is_writing;
-use checks::numbers::well_formed;
 use rules::Controller;
 use rules::Geometry;
 use rules::Number;
 use rules::Phase;
 
-// Whether the table is well formed, and how many words begin copies by it.
+// Whether the table is well formed and, if so, how many words begin copies by it.
 pub struct Walked {
     pub formed: bool,
     pub words: usize,
@@ -29,36 +34,34 @@ pub struct Counted {
     pub words: usize,
 }
 
-// How many words begin copies for a table word.
-pub fn copy_words(word: u64) -> usize
-    ensures { λ r. ⌜ (r ≤ 8) × ((g : G.Geometry) (cache : List ℕ) (slot : ℕ) → r ≡ length (R.copyOf cache slot (R.copiedTo g slot (says word)))) ⌝ }
+// How many blocks begin copies for a well formed word: one for the codes 4 and 5, else none.
+pub fn copies_for(word: u64) -> u64
+    ensures { λ r. ⌜ (r ≤ 63) × (FormedWord word → (g : G.Geometry) (cache : List ℕ) (slot : ℕ) → 8 * r ≡ length (R.copyOf cache slot (R.copiedTo g slot (says word)))) ⌝ }
 {
-    let code = word % 256;
-    if code == 4 {
-        return Geometry::BLOCK_WORDS;
-    }
-    if code == 5 {
-        return Geometry::BLOCK_WORDS;
-    }
-    0
+    word % 256 / 4
 }
 
 pub fn walk_table(table: &[u64], phase: Phase, g: Geometry) -> Walked
-    ensures { λ r. ⌜ (r .formed ≡ every (N.wellFormed (N.allows phase) g) (now (table .entry))) × ((h : G.Geometry) (cache : List ℕ) → r .words ≡ length (R.copies h cache 0 (now (table .entry)))) ⌝ }
+    requires { ⌜ (1 ≤ g .blocks) × (g .blocks ≤ 4096) × (length (now table) ≤ 512) ⌝ }
+    ensures { λ r. ⌜ (r .formed ≡ every (N.wellFormed (N.allows phase) g) (now (table .entry))) × (r .formed ≡ true → (h : G.Geometry) (cache : List ℕ) → r .words ≡ length (R.copies h cache 0 (now (table .entry)))) ⌝ }
 {
     let writing = is_writing(phase);
-    let mut formed = true;
-    let mut words = 0;
+    let added = margin(g);
+    let mut flawed = 0u64;
+    let mut seen = 0u64;
+    let mut copies = 0u64;
     let mut slot = 0;
     while slot < table.len() {
         let word = table[slot];
-        formed = formed & well_formed(word, writing, g);
-        words += copy_words(word);
+        flawed = flawed | flaws(word, added);
+        seen = seen | watched(word, writing);
+        copies += copies_for(word);
         slot += 1;
     }
+    let words = 8 * copies;
     Walked {
-        formed: formed,
-        words: words,
+        formed: all_formed(flawed, seen),
+        words: words as usize,
     }
 }
 
@@ -71,15 +74,15 @@ pub fn count_begin(
 ) -> Counted
     ensures { λ r. ⌜ (r .number ≡ N.firstOf (N.commonChecks (boardOf (now (memory .entry)) (now (cache .entry)) (now (table .entry)) controller) unfit)) × (N.numberOf (r .number) ≡ 0 → r .words ≡ length (R.copies (controller .geometry) (now (cache .entry)) 0 (now (table .entry)))) ⌝ }
 {
-    let early = early_number(memory, cache, table, controller, unfit);
+    let g = controller.geometry;
+    let phase = controller.phase;
+    let early = early_number(memory.len(), cache.len(), table.len(), g, phase, unfit);
     if !accepted(early) {
         return Counted {
             number: early,
             words: 0,
         };
     }
-    let g = controller.geometry;
-    let phase = controller.phase;
     let walked = walk_table(table, phase, g);
     if !walked.formed {
         return Counted {

@@ -70,15 +70,15 @@ pub fn step(
 ) -> Answer
     ensures { λ r. ⌜ K.call p (boardOf (now (memory .entry)) (now (cache .entry)) (now (table .entry)) controller) (K.step most) ≡ outcomeOf r (now (memory .exit)) (now (cache .entry)) (now (table .entry)) ⌝ }
 {
-    let number = common_number(memory, cache, table, controller, false);
+    let g = controller.geometry;
+    let phase = controller.phase;
+    let number = common_number(memory.len(), cache.len(), table, g, phase, false);
     if !accepted(number) {
         return refused(number, controller);
     }
-    let phase = controller.phase;
     if is_running(phase) {
         return refused(Number::Idle, controller);
     }
-    let g = controller.geometry;
     let count = count_of(phase);
     let left = (g.slots as usize) + 9 - count;
     let words = least(most, left);

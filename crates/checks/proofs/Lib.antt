@@ -1,4 +1,5 @@
 pub mod Words
-pub mod Slots
+pub mod Walking
+pub mod Flaws
 pub mod Passed
 pub mod Settled

@@ -7,10 +7,11 @@ use Prim.Native.Nat.{ℕ, _+_, _*_, _≤_}
 use native.Mathlib.Omega.{arith}
 use native.Mathlib.Nat.{suc-ne-zero}
 use lib.Dec.{eqb, leb}
-use lib.ListN.{length}
+use lib.ListN.{length, replicate, length-replicate}
 use borrow.Author.Tests.{leb-true, ltb-false, eqb-true, eqb-false, not-false, not-true}
 use Rattle.words.proofs.All.{All, done, also, all-take}
 use Rattle.rules.specs.declared.Geometry.{Geometry}
+use Rattle.rules.specs.declared.Backup.the-variants.{A}
 use Rattle.rules.specs.declared.Phase.{Phase}
 use Rattle.rules.specs.declared.Phase.the-variants.{Running, Writing, Off}
 use Rattle.rules.specs.declared.Controller.{Controller}
@@ -18,12 +19,13 @@ use Rattle.rules.specs.declared.Number.{Number}
 use Rattle.rules.specs.declared.Number.the-variants as No
 use Rattle.rules.specs.Geometry.{memoryWords}
 use Rattle.rules.specs.TableWords.{every}
-use Rattle.rules.specs.Board.{Board, boardOf}
+use Rattle.rules.specs.Board.{Board, boardOf, sizes, phaseOf, cacheOf, tableOf}
 use Rattle.rules.specs.Numbers.{numberOf, Check, _⇒_, firstOf, outside, inexact, overCount, isOff, allows, wellFormed, malformed, commonChecks}
 use Rattle.rules.specs.Checkpoints.{countOf}
 use Rattle.rules.specs.Starts.{formatNumber}
 use Rattle.rules.proofs.Clashes.{and-left, and-right, or-false}
 use Rattle.checks.specs.Early.{earlyChecks}
+use Rattle.checks.specs.Lent.{Lengths, Lent}
 use Rattle.checks.specs.Ready.{Ready}
 
 -- ---- link by link
@@ -140,32 +142,59 @@ common-goes-on board unfit checks e = go-on checks (common-refuses board unfit) 
 -- ---- the checks 1 to 4, and then the table's words
 
 -- n is the number of the early checks
-module _ (memory cache table : List ℕ) (controller : Controller) (unfit : Bool) (n : Number) (ok : Bool)
-    (e : n ≡ firstOf (earlyChecks (boardOf memory cache table controller) unfit)) (o : ok ≡ eqb (numberOf n) 0) where
-  abbrev lent : Board
-  lent = boardOf memory cache table controller
-
-  table-last : firstOf (earlyChecks lent unfit ++ (malformed lent ⇒ No.Table) ∷ []) ≡ firstOf (commonChecks lent unfit)
+module _ (board : Board) (unfit : Bool) (n : Number) (ok : Bool) (e : n ≡ firstOf (earlyChecks board unfit)) (o : ok ≡ eqb (numberOf n) 0) where
+  table-last : firstOf (earlyChecks board unfit ++ (malformed board ⇒ No.Table) ∷ []) ≡ firstOf (commonChecks board unfit)
   unfolding earlyChecks commonChecks
   table-last = refl
 
-  pub early-stops : not ok ≡ true → n ≡ firstOf (commonChecks lent unfit)
-  early-stops t = stopped (earlyChecks lent unfit) ((malformed lent ⇒ No.Table) ∷ []) e (refusing n o (not-true ok t)) ∙ table-last
+  pub early-stops : not ok ≡ true → n ≡ firstOf (commonChecks board unfit)
+  early-stops t = stopped (earlyChecks board unfit) ((malformed board ⇒ No.Table) ∷ []) e (refusing n o (not-true ok t)) ∙ table-last
 
-  table-decides : not ok ≡ false → firstOf ((malformed lent ⇒ No.Table) ∷ []) ≡ firstOf (commonChecks lent unfit)
+  -- the checks 1 to 4 are passed
+  pub early-passed : not ok ≡ false → Ready (sizes board) (board .memory) (cacheOf board) (tableOf board)
+  unfolding earlyChecks commonChecks malformed firstOf numberOf
+  early-passed t =
+      let z : numberOf (firstOf (earlyChecks board unfit)) ≡ 0 = ap numberOf (sym e) ∙ accepting n o (not-false ok t) in
+      let p1 = passed _ No.Geometry _ (suc-ne-zero 0) z in
+      let p2 = passed _ No.Buffer _ (suc-ne-zero 1) (p1 .1) in
+      ready (board .memory) (cacheOf board) (tableOf board) (sizes board) (board .volatile .controller) (p1 .0)
+      (or-false (inexact (sizes board) board) unfit (p2 .0) .0)
+
+  table-decides : not ok ≡ false → firstOf ((malformed board ⇒ No.Table) ∷ []) ≡ firstOf (commonChecks board unfit)
   unfolding earlyChecks
   table-decides t =
-      sym (go-on ((malformed lent ⇒ No.Table) ∷ []) (all-take 4 (common-refuses lent unfit)) (ap numberOf (sym e) ∙ accepting n o (not-false ok t)))
+      sym (go-on ((malformed board ⇒ No.Table) ∷ []) (all-take 4 (common-refuses board unfit)) (ap numberOf (sym e) ∙ accepting n o (not-false ok t)))
       ∙ table-last
 
-  module _ (formed : Bool) (f : formed ≡ every (wellFormed (allows (controller .phase)) (controller .geometry)) table) where
-    pub table-stops : not ok ≡ false → not formed ≡ true → No.Table ≡ firstOf (commonChecks lent unfit)
+  module _ (formed : Bool) (f : formed ≡ every (wellFormed (allows (phaseOf board)) (sizes board)) (tableOf board)) where
+    pub table-stops : not ok ≡ false → not formed ≡ true → No.Table ≡ firstOf (commonChecks board unfit)
     unfolding malformed
     table-stops t q = hit [] (ap not (sym f) ∙ q) ∙ table-decides t
 
-    pub all-passed : not ok ≡ false → not formed ≡ false → No.Done ≡ firstOf (commonChecks lent unfit)
+    pub all-passed : not ok ≡ false → not formed ≡ false → No.Done ≡ firstOf (commonChecks board unfit)
     unfolding malformed
     all-passed t q = miss No.Table [] (ap not (sym f) ∙ q) none-applies ∙ table-decides t
+
+-- ---- what is lent
+
+pub lengths : {board : Board} {m c : ℕ} {t : List ℕ} {g : Geometry} {phase : Phase} → Lent board m c t g phase → Lengths board m c (length t)
+lengths l = record { memory = l .memory; cache = l .cache; table = ap length (l .table) }
+
+pub formed-in : {board : Board} {m c : ℕ} {t : List ℕ} {g : Geometry} {phase : Phase} {formed : Bool} → Lent board m c t g phase
+    → formed ≡ every (wellFormed (allows phase) g) t → formed ≡ every (wellFormed (allows (phaseOf board)) (sizes board)) (tableOf board)
+formed-in l e = rw (l .table, l .geometry, l .phase) e
+
+pub lent-now : (memory cache table : List ℕ) (controller : Controller)
+    → Lent (boardOf memory cache table controller) (length memory) (length cache) table (controller .geometry) (controller .phase)
+lent-now memory cache table controller = record { memory = refl; cache = refl; table = refl; geometry = refl; phase = refl }
+
+-- some board of these lengths, so that what holds of all of them holds of the sizes and the table
+module _ (m c : ℕ) (t : List ℕ) (g : Geometry) (now : Phase) where
+  abbrev pub sample : Board
+  sample = boardOf (replicate m 0) (replicate c 0) t (record { geometry = g; registers = []; finished = A; phase = now })
+
+  pub sample-lengths : Lengths sample m c (length t)
+  sample-lengths = record { memory = length-replicate m 0; cache = length-replicate c 0; table = refl }
 
 -- what a call knows of the board once its checks 1 to 5 are passed
 pub record Passed (memory cache table : List ℕ) (controller : Controller) (unfit : Bool) : Type 0 where

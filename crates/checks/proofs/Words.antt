@@ -6,18 +6,18 @@ use mathlib.Core.Option.{Option, none, some}
 use Prim.Native.Nat.{ℕ, zero, suc, _-_, _*_, _/_, _%_, _≤_, _<_}
 use native.Mathlib.Omega.{arith}
 use lib.Dec.{eqb, ltb, leb}
-use borrow.Author.Tests.{lt-ltb, le-ltb, le-leb, ltb-true, leb-true, eqb-true, eqb-false, eq-eqb}
+use borrow.Author.Tests.{lt-ltb, le-ltb, le-leb, ltb-true, leb-true, eqb-true, eqb-false, eq-eqb, ne-eqb, not-true}
 use Rattle.rules.specs.declared.Geometry.{Geometry}
 use Rattle.rules.specs.declared.Phase.{Phase}
 use Rattle.rules.specs.declared.Phase.the-variants.{Running, Writing, Off}
 use Rattle.rules.specs.declared.State.{State}
 use Rattle.rules.specs.declared.State.the-variants.{Clean, Dirty, Hidden, PreHidden, PreDirty}
-use Rattle.rules.specs.TableWords.{codeOf, wordOf, stateFor, free, names, saysOf, says}
+use Rattle.rules.specs.TableWords.{codeOf, wordOf, stateFor, Says, free, names, neither, saysOf, says}
 use Rattle.rules.specs.Numbers.{isWriting, allows, whileWriting, wellSaid, wellFormed}
 use Rattle.rules.proofs.Clashes.{false-true, none-some, and-left, and-right}
-use Rattle.rules.proofs.TableWordLaws.{code-low, code-high, code-state, word-block, word-code, says-word, names-word}
+use Rattle.rules.proofs.TableWordLaws.{code-low, code-high, code-state, says-word, names-word, free-word}
 use Rattle.rules.proofs.Finding.{Skips}
-use Rattle.checks.specs.Tables.{allowedWhile, namesBlock}
+use Rattle.checks.specs.Tables.{allowedWhile, FormedWord, ofBlock, wanted}
 
 -- two tests of orders that follow from each other are the same
 leb-ltb : (a b c d : ℕ) → (a ≤ b → c < d) → (c < d → a ≤ b) → leb a b ≡ ltb c d
@@ -39,7 +39,7 @@ column Off = refl
 
 -- of the codes 1 to 5, Writing forbids 2 and 3
 allowed-is : (writing : Bool) (state : State) → not writing || eqb (codeOf state / 2 % 2) 0 ≡ allowedWhile writing state
-unfolding allowedWhile whileWriting codeOf
+unfolding allowedWhile whileWriting
 allowed-is false state = refl
 allowed-is true Clean = refl
 allowed-is true Dirty = refl
@@ -102,6 +102,22 @@ formed-is writing g word less l = go (eqb word 0) refl
         (or-true (not writing) (eqb (word / 2 % 2) 0) (eq-eqb (word / 2 % 2) 0 (omega arith)))
     go false e = named (stateFor (word % 256)) refl (eqb-false word 0 e)
 
+-- ---- the form of a word, without its phase
+
+pub formed-word : (allowed : State → Bool) (g : Geometry) (word : ℕ) → g .blocks ≤ 4096 → wellFormed allowed g word ≡ true → FormedWord word
+unfolding wellFormed wellSaid wordOf
+formed-word allowed g word h = go (says word) refl
+  where
+    go : (x : Says) → says word ≡ x → wellSaid allowed g x ≡ true → FormedWord word
+    go free e t = let z : word ≡ 0 = free-word word e in record { low = λ ne. absurd (ne z); high = omega arith; block = omega arith }
+    go (names k state) e t =
+        let w : word ≡ wordOf k state = names-word word k state e in
+        let b : k < g .blocks = ltb-true k (g .blocks) (and-left (ltb k (g .blocks)) (allowed state) t) in
+        let low = code-low state in
+        let high = code-high state in
+        record { low = λ ne. omega arith; high = omega arith; block = omega arith }
+    go neither e t = absurd (false-true t)
+
 -- ---- naming a block
 
 pub record Named (block word : ℕ) : Type 0 where
@@ -109,19 +125,15 @@ pub record Named (block word : ℕ) : Type 0 where
   pub low : 1 ≤ word % 256
   pub high : word % 256 ≤ 5
 
-pub named-by : (block word : ℕ) → namesBlock block word ≡ true → Named block word
-unfolding namesBlock
-named-by block word e =
-    let a = eqb (word / 256) block in
-    let b = ltb 0 (word % 256) in
-    let c = ltb (word % 256) 6 in
-    let ab : a && b ≡ true = and-left (a && b) c e in
-    let high : word % 256 < 6 = ltb-true (word % 256) 6 (and-right (a && b) c e) in
-    record {
-      block-of = eqb-true (word / 256) block (and-left a b ab);
-      low = ltb-true 0 (word % 256) (and-right a b ab);
-      high = omega arith;
-    }
+pub named-by : (block word : ℕ) → FormedWord word → wanted block false word ≡ true → Named block word
+unfolding wanted ofBlock
+named-by block word f e =
+    let a = eqb (word / 256 % 4294967296) block in
+    let b = not (eqb word 0) in
+    let k : word / 256 % 4294967296 ≡ block = eqb-true (word / 256 % 4294967296) block (and-left a b e) in
+    let ne : word ≢ 0 = eqb-false word 0 (not-true (eqb word 0) (and-right a b e)) in
+    let h = f .block in
+    record { block-of = omega arith; low = f .low ne; high = f .high }
 
 pub names-state : (block word : ℕ) (state : State) → Named block word → codeOf state ≡ word % 256 → says word ≡ names block state
 unfolding wordOf
@@ -130,15 +142,30 @@ names-state block word state n e =
     let q : word ≡ wordOf block state = omega arith in
     ap says q ∙ says-word block state
 
-pub skipped : (block word : ℕ) → namesBlock block word ≡ false → Skips block word
-unfolding namesBlock
-skipped block word e = record {
+pub skipped : (block word : ℕ) → block < 4096 → wanted block false word ≡ false → Skips block word
+unfolding wanted ofBlock wordOf
+skipped block word h e = record {
   never = λ state q.
       let w : word ≡ wordOf block state = names-word word block state q in
-      let k : word / 256 ≡ block = ap (λ (x : ℕ). x / 256) w ∙ word-block block state in
-      let c : word % 256 ≡ codeOf state = ap (λ (x : ℕ). x % 256) w ∙ word-code block state in
-      let t : eqb (word / 256) block && ltb 0 (word % 256) && ltb (word % 256) 6 ≡ true =
-      (rw (eq-eqb (word / 256) block k, lt-ltb 0 (word % 256) (omega (arith, code-high state)), lt-ltb (word % 256) 6 (omega (arith, code-low state))))
-      in
+      let low = code-low state in
+      let high = code-high state in
+      let k : word / 256 % 4294967296 ≡ block = omega arith in
+      let t : eqb (word / 256 % 4294967296) block && not (eqb word 0) ≡ true = (rw (eq-eqb (word / 256 % 4294967296) block k, ne-eqb word 0 (λ z. absurd (omega arith)))) in
       false-true (sym e ∙ t);
 }
+
+-- a word is free, as a word of block 0
+pub free-of : (word : ℕ) → wanted 0 true word ≡ eqb word 0
+unfolding wanted ofBlock
+free-of word = go (eqb word 0) refl
+  where
+    and-no : (b : Bool) → b && false ≡ false
+    and-no true = refl
+    and-no false = refl
+
+    zero-block : (b : Bool) → eqb (word / 256 % 4294967296) 0 ≡ b → word ≡ 0 → b ≡ true
+    zero-block b e z = sym e ∙ eq-eqb (word / 256 % 4294967296) 0 (omega arith)
+
+    go : (b : Bool) → eqb word 0 ≡ b → eqb (word / 256 % 4294967296) 0 && b ≡ b
+    go true e = rw (zero-block (eqb (word / 256 % 4294967296) 0) refl (eqb-true word 0 e))
+    go false e = and-no (eqb (word / 256 % 4294967296) 0)

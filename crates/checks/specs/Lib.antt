@@ -1,4 +1,6 @@
 pub mod Answers
 pub mod Tables
+pub mod Forms
+pub mod Lent
 pub mod Ready
 pub mod Early

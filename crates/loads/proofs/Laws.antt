@@ -19,7 +19,7 @@ use Rattle.rules.specs.declared.Number.{Number}
 use Rattle.rules.specs.declared.Number.the-variants as No
 use Rattle.rules.specs.Board.{Board, sizes, boardOf}
 use Rattle.rules.specs.TableWords.{lookup}
-use Rattle.rules.specs.Numbers.{numberOf, Check, _⇒_, firstOf, commonChecks, noBlock, outOfRange}
+use Rattle.rules.specs.Numbers.{numberOf, Check, _⇒_, firstOf, allows, commonChecks, noBlock, outOfRange}
 use Rattle.rules.specs.Power.{carry, guard, Outcome, settle}
 use Rattle.rules.specs.Loads.{spotOf, blockIn, visible, seen, loadNumber, loadPlan, peekNumber, peekPlan}
 use Rattle.rules.specs.Calls.{load, peek, plan, call}
@@ -27,6 +27,8 @@ use Rattle.rules.proofs.Checked.{passed, InRange, in-range}
 use Rattle.rules.proofs.KeepsStore.{seen-length}
 use Rattle.rules.proofs.Finding.{Finds, finds, found-lt}
 use Rattle.checks.specs.Ready.{Ready}
+use Rattle.checks.specs.Tables.{Formed}
+use Rattle.checks.proofs.Walking.{formed-table}
 use Rattle.checks.proofs.Passed.{hit, miss, none-applies, stopped, common-goes-on, common-passed}
 use Rattle.blocks.specs.Shown.{PartOf, Shown}
 use Rattle.blocks.proofs.Laws.{shown-bytes}
@@ -141,26 +143,27 @@ module _ (board : Board) (applies : Bool) {n : Number} (e : n ≡ firstOf (commo
 
 module _ (memory cache table : List ℕ) (controller : Controller) where
   range-passed : (applies : Bool) → numberOf (firstOf (rangeChecks (boardOf memory cache table controller) applies)) ≡ 0
-      → Ready (controller .geometry) memory cache table × (applies ≡ false)
+      → Ready (controller .geometry) memory cache table × (applies ≡ false) × Formed table
   unfolding numberOf
   range-passed applies e =
       let p = common-passed memory cache table controller false ((applies ⇒ No.Range) ∷ []) e in
-      (p .0 .ready, passed applies No.Range [] (suc-ne-zero 5) (p .1) .0)
+      let formed = formed-table (allows (controller .phase)) (controller .geometry) table (p .0 .ready .blocks) (p .0 .formed) in
+      (p .0 .ready, passed applies No.Range [] (suc-ne-zero 5) (p .1) .0, formed)
 
   pub load-passed : (block offset len : ℕ) {n : Number} → n ≡ loadNumber (boardOf memory cache table controller) block offset len → numberOf n ≡ 0
-      → Ready (controller .geometry) memory cache table × InRange (boardOf memory cache table controller) block offset len
+      → Ready (controller .geometry) memory cache table × InRange (boardOf memory cache table controller) block offset len × Formed table
   load-passed block offset len e z =
       let board = boardOf memory cache table controller in
       let p = range-passed (outOfRange board block offset len) (ap numberOf (load-checks board block offset len ∙ sym e) ∙ z) in
-      (p .0, in-range board block offset len (p .1))
+      (p .0, in-range board block offset len (p .1), p .2)
 
   pub peek-passed : (block : ℕ) {n : Number} → n ≡ peekNumber (boardOf memory cache table controller) block → numberOf n ≡ 0
-      → Ready (controller .geometry) memory cache table × (block < controller .geometry .blocks)
+      → Ready (controller .geometry) memory cache table × (block < controller .geometry .blocks) × Formed table
   unfolding noBlock
   peek-passed block e z =
       let board = boardOf memory cache table controller in
       let p = range-passed (noBlock board block) (ap numberOf (peek-checks board block ∙ sym e) ∙ z) in
-      (p .0, leb-false (controller .geometry .blocks) block (p .1))
+      (p .0, leb-false (controller .geometry .blocks) block (p .1), p .2)
 
 -- ---- what a lookup finds: `look` is its result, `found` the case that the code is in
 

@@ -3,11 +3,13 @@ ghost use mathlib.Core.Path.{_≡_};
 ghost use Rattle.rules.specs.Board.{Board, sizes, boardOf};
 ghost use Rattle.rules.specs.Numbers.{noBlock, outOfRange};
 ghost use Rattle.rules.specs.Loads.{loadNumber, peekNumber};
+ghost use Rattle.checks.specs.Lent.{Lent};
 ghost use Rattle.loads.specs.Reading.{Loaded, Peeked};
 use rules::Controller;
 use rules::Geometry;
 use rules::Lookup;
 use rules::Number;
+use rules::Phase;
 
 // 6 RANGE, of a peek
 pub fn no_block(g: Geometry, block: usize) -> bool
@@ -32,23 +34,23 @@ pub fn out_of_range(g: Geometry, block: usize, offset: usize, len: usize) -> boo
     len > 64 - offset
 }
 
-// The checks 1 to 6 of a load, and of a store of as many bytes.
+// The checks 1 to 6 of a load, and of a store of as many bytes, by the lent lengths.
 pub fn load_number(
-    memory: &[u8],
-    cache: &[u8],
+    memory: usize,
+    cache: usize,
     table: &[u64],
-    controller: Controller,
+    g: Geometry,
+    phase: Phase,
     block: usize,
     offset: usize,
     len: usize,
 ) -> Number
-    ensures { λ r. ⌜ r ≡ loadNumber (boardOf (now (memory .entry)) (now (cache .entry)) (now (table .entry)) controller) block offset len ⌝ }
+    ensures { λ r. ⌜ ((board : Board) → Lent board memory cache (now (table .entry)) g phase → r ≡ loadNumber board block offset len) ⌝ }
 {
-    let number = checks::numbers::common_number(memory, cache, table, controller, false);
+    let number = checks::numbers::common_number(memory, cache, table, g, phase, false);
     if !checks::numbers::accepted(number) {
         return number;
     }
-    let g = controller.geometry;
     if out_of_range(g, block, offset, len) {
         return Number::Range;
     }
@@ -67,11 +69,21 @@ pub fn load(
 ) -> Number
     ensures { λ r. ⌜ Loaded (boardOf (now (memory .entry)) (now (cache .entry)) (now (table .entry)) controller) block offset (now (into .entry)) (now (into .exit)) r ⌝ }
 {
-    let number = load_number(memory, cache, table, controller, block, offset, into.len());
+    let g = controller.geometry;
+    let phase = controller.phase;
+    let number = load_number(
+        memory.len(),
+        cache.len(),
+        table,
+        g,
+        phase,
+        block,
+        offset,
+        into.len(),
+    );
     if !checks::numbers::accepted(number) {
         return number;
     }
-    let g = controller.geometry;
     let Lookup::Entry { slot, state } = checks::table::lookup(table, block) else {
         blocks::copy_home(memory, g, block, offset, into);
         return Number::Done;
@@ -90,11 +102,12 @@ pub fn peek_number(
 ) -> Number
     ensures { λ r. ⌜ r ≡ peekNumber (boardOf (now (memory .entry)) (now (cache .entry)) (now (table .entry)) controller) block ⌝ }
 {
-    let number = checks::numbers::common_number(memory, cache, table, controller, false);
+    let g = controller.geometry;
+    let phase = controller.phase;
+    let number = checks::numbers::common_number(memory.len(), cache.len(), table, g, phase, false);
     if !checks::numbers::accepted(number) {
         return number;
     }
-    let g = controller.geometry;
     if no_block(g, block) {
         return Number::Range;
     }

@@ -234,7 +234,7 @@ module _ (g : Geometry) (memory cache table : List ℕ) (live : ℕ → List ℕ
 
   -- after the copies every block is where begin's table has it
   after : (block : ℕ) → block < g .blocks → blockAt memory′ (savedBy g block (found begun (lookup block table))) ≡ live block
-  unfolding visible spotOf spotIn shows blockIn savedBy found foundOr begun copiedTo
+  unfolding visible spotOf spotIn blockIn savedBy found foundOr begun copiedTo
   after block h = go (lookup block table) (finds block table) (sh .shows block h)
     where
       -- HOME of a block is no slot's goal but that of its own entry
@@ -280,7 +280,7 @@ module _ (g : Geometry) (memory cache table : List ℕ) (live : ℕ → List ℕ
 
   -- begin's table holds clean entries alone: it shows a block where it saves it
   begun-spot : (block : ℕ) (r : Lookup) → spotOf g block (found begun r) ≡ inMemory (savedBy g block (found begun r))
-  unfolding spotOf spotIn shows savedBy found foundOr begun
+  unfolding spotOf spotIn savedBy found foundOr begun
   begun-spot block Nothing = refl
   begun-spot block (Entry slot Clean) = refl
   begun-spot block (Entry slot Dirty) = refl

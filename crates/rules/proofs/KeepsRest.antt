@@ -98,7 +98,7 @@ module _ (g : Geometry) (memory cache table : List ℕ) (good : sound g table �
   cleans = every-all (wellFormed onlyClean g) table (and-left (every (wellFormed onlyClean g) table) (distinct table) good)
 
   pub sound-live : Live g (allows Running) memory cache table (λ block. blockAt memory (savedBlock g table block))
-  unfolding visible savedBlock savedBy spotOf spotIn shows blockIn sound
+  unfolding visible savedBlock savedBy spotOf spotIn blockIn sound
   sound-live = record {
     formed = all-map (formed-running onlyClean g) cleans;
     apart = distinct-apart table (and-right (every (wellFormed onlyClean g) table) (distinct table) good);

@@ -31,7 +31,7 @@ use Rattle.rules.specs.declared.Place.{Place}
 use Rattle.rules.specs.declared.Place.the-variants.{Home, Checkpoint, Cache}
 use Rattle.rules.specs.declared.Number.the-variants as No
 use Rattle.rules.specs.Geometry.{backupStart, backupWords, markStart, memoryWords}
-use Rattle.rules.specs.TableWords.{codeOf, wordOf, Says, free, names, neither, says, lookup, entryOr, changedBy, changed}
+use Rattle.rules.specs.TableWords.{wordOf, Says, free, names, neither, says, lookup, entryOr, changedBy, changed}
 use Rattle.rules.specs.Board.{Board, sizes, phaseOf, cacheOf, tableOf}
 use Rattle.rules.specs.Numbers.{numberOf, _⇒_, isOff, whileWriting, wellSaid, wellFormed, isRunning}
 use Rattle.rules.specs.Power.{Plan, carry, switchedOff}
@@ -115,7 +115,7 @@ module _ (g : Geometry) (backup : Backup) (registers table : List ℕ) (eight : 
 -- ---- the words of a table as they are saved
 
 saved-small : (allowed : State → Bool) (g : Geometry) → g .blocks ≤ 4096 → (w : ℕ) → wellFormed allowed g w ≡ true → Small (changed saved w)
-unfolding wellFormed wellSaid changed changedBy entryOr saved Small wordOf codeOf
+unfolding wellFormed wellSaid changed changedBy entryOr saved Small wordOf
 saved-small allowed g h w e = go (says w) e
   where
     word-small : (block : ℕ) → block < 4096 → wordOf block Clean < 256 ^ 8

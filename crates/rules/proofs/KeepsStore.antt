@@ -376,7 +376,7 @@ module _ (board : Board) (plain : Plain) (v : Inv board plain) (block offset : �
       → (z : Option ℕ)
       → VacantAt table z
       → Keeps board plain (store block offset bytes) (movedTo board block (slotFor r z) fresh (stores r .running))
-  unfolding movedTo moved layAt slotFor stores standing numberOf spotIn allows shows Room memoryWith cacheWith
+  unfolding movedTo moved layAt slotFor stores standing numberOf spotIn allows Room memoryWith cacheWith
   while-running ph be sh = go
     where
       room : (q : ℕ) → q < g .blocks + g .slots → 64 * q + 64 ≤ length (board .memory)
@@ -416,7 +416,7 @@ module _ (board : Board) (plain : Plain) (v : Inv board plain) (block offset : �
       → (z : Option ℕ)
       → VacantAt table z
       → Keeps board plain (store block offset bytes) (movedTo board block (slotFor r z) fresh (stores r .writing))
-  unfolding movedTo moved layAt slotFor stores saved numberOf spotIn whileWriting shows Room memoryWith cacheWith
+  unfolding movedTo moved layAt slotFor stores saved numberOf spotIn whileWriting Room memoryWith cacheWith
   while-writing count ph sh dr = go
     where
       to-cache : (slot : ℕ) (next : State) → Sits block table slot

@@ -16,7 +16,7 @@ use Rattle.rules.specs.declared.State.{State}
 use Rattle.rules.specs.declared.State.the-variants.{Clean, Dirty, Hidden, PreHidden, PreDirty}
 use Rattle.rules.specs.declared.Lookup.the-variants.{Entry, Nothing}
 use Rattle.rules.specs.Geometry.{homeStart, homeWords, checkpointStart, checkpointWords, backupStart, backupWords, markStart, memoryWords, homeBlock, checkpointBlock}
-use Rattle.rules.specs.TableWords.{codeOf, wordOf, says, lookup, entryOr, changed}
+use Rattle.rules.specs.TableWords.{wordOf, says, lookup, entryOr, changed}
 use Rattle.rules.specs.Checkpoints.{begun, saved, other, markOf, checkpointList}
 use Rattle.rules.proofs.Clashes.{free-names}
 use Rattle.rules.proofs.TableWordLaws.{says-word, says-zero, names-word}
@@ -80,13 +80,13 @@ zero-names-nothing block state e = free-names block state (sym says-zero ∙ ap 
 
 -- block 0 clean is the word 1
 pub block-zero-clean : wordOf 0 Clean ≡ 1
-unfolding wordOf codeOf
+unfolding wordOf
 block-zero-clean = refl
 
 -- ---- what is saved: 256 x block + 1 for clean and pre-hidden, else 0
 
 pub saved-words : (block : ℕ) → (changed saved (wordOf block Clean) ≡ 256 * block + 1) × (changed saved (wordOf block PreHidden) ≡ 256 * block + 1)
-unfolding saved entryOr wordOf codeOf
+unfolding saved entryOr wordOf
 saved-words block =
     (changed-entry saved (wordOf block Clean) block Clean (says-word block Clean), changed-entry saved (wordOf block PreHidden) block PreHidden (says-word block PreHidden))
 
@@ -104,7 +104,7 @@ unsaved-words block = (
 
 pub begun-clean : (block : ℕ)
     → (changed begun (256 * block + 1) ≡ 256 * block + 1) × (changed begun (256 * block + 2) ≡ 256 * block + 1) × (changed begun (256 * block + 5) ≡ 256 * block + 1)
-unfolding begun entryOr wordOf codeOf
+unfolding begun entryOr wordOf
 begun-clean block = (
   changed-entry begun (wordOf block Clean) block Clean (says-word block Clean),
   changed-entry begun (wordOf block Dirty) block Dirty (says-word block Dirty),
@@ -112,7 +112,7 @@ begun-clean block = (
 )
 
 pub begun-free : (block : ℕ) → (changed begun (256 * block + 3) ≡ 0) × (changed begun (256 * block + 4) ≡ 0) × (changed begun 0 ≡ 0)
-unfolding begun entryOr wordOf codeOf
+unfolding begun entryOr wordOf
 begun-free block = (
   changed-entry begun (wordOf block Hidden) block Hidden (says-word block Hidden),
   changed-entry begun (wordOf block PreHidden) block PreHidden (says-word block PreHidden),

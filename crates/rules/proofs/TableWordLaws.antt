@@ -13,7 +13,6 @@ use Rattle.rules.specs.TableWords.{codeOf, wordOf, stateFor, free, names
 use Rattle.rules.proofs.Clashes.{none-some, free-names, neither-names, neither-free}
 
 pub code-low : (state : State) → codeOf state ≤ 5
-unfolding codeOf
 code-low Clean = omega arith
 code-low Dirty = omega arith
 code-low Hidden = omega arith
@@ -21,7 +20,6 @@ code-low PreHidden = omega arith
 code-low PreDirty = omega arith
 
 pub code-high : (state : State) → 1 ≤ codeOf state
-unfolding codeOf
 code-high Clean = omega arith
 code-high Dirty = omega arith
 code-high Hidden = omega arith
@@ -31,7 +29,7 @@ code-high PreDirty = omega arith
 -- ---- codes and states
 
 pub state-code : (state : State) → stateFor (codeOf state) ≡ some state
-unfolding stateFor codeOf
+unfolding stateFor
 state-code Clean = refl
 state-code Dirty = refl
 state-code Hidden = refl
@@ -47,7 +45,7 @@ row-code code n here state rest q below = go (eqb code n) refl
     go false t e = below e
 
 pub code-state : (code : ℕ) (state : State) → stateFor code ≡ some state → code ≡ codeOf state
-unfolding stateFor codeOf
+unfolding stateFor
 code-state code state =
     row-code code 1 Clean state _ refl
     (row-code code 2 Dirty state _ refl

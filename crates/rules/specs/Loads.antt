@@ -31,7 +31,7 @@ spotIn g block slot Checkpoint = inMemory (checkpointBlock g slot)
 spotIn g block slot Cache = inCache slot
 
 -- the table 'Where a block shows'
-unfoldable pub shows : State → Place
+abbrev pub shows : State → Place
 shows Hidden = Home
 shows Clean = Checkpoint
 shows Dirty = Checkpoint
@@ -39,7 +39,7 @@ shows PreHidden = Cache
 shows PreDirty = Cache
 
 unfoldable pub spotOf : Geometry → ℕ → Lookup → Spot
-unfolding spotIn shows
+unfolding spotIn
 spotOf g block Nothing = inMemory (homeBlock g block)
 spotOf g block (Entry slot state) = spotIn g block slot (shows state)
 

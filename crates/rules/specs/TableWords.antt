@@ -10,7 +10,7 @@ use Rattle.rules.specs.declared.Lookup.{Lookup}
 use Rattle.rules.specs.declared.Lookup.the-variants.{Entry, Nothing}
 
 -- the code of a state
-unfoldable pub codeOf : State → ℕ
+abbrev pub codeOf : State → ℕ
 codeOf Clean = 1
 codeOf Dirty = 2
 codeOf Hidden = 3
@@ -19,7 +19,6 @@ codeOf PreDirty = 5
 
 -- a table word is 256 x block + code
 unfoldable pub wordOf : ℕ → State → ℕ
-unfolding codeOf
 wordOf block state = 256 * block + codeOf state
 
 -- the state that a code stands for
@@ -66,7 +65,6 @@ lookup block (word ∷ table) = lookupBy block (says word) (lookup block table)
 
 -- the values of a lookup's answer: the slot and the code of its state, or none
 unfoldable pub valuesOf : Lookup → List ℕ
-unfolding codeOf
 valuesOf (Entry slot state) = slot ∷ codeOf state ∷ []
 valuesOf Nothing = []
 

@@ -39,7 +39,7 @@ clean-free g w e = rw (says-free w e)
 
 -- of the states only Clean, whose code is 1, passes
 only-clean : (state : State) (x : Bool) → eqb (codeOf state) 1 && x ≡ x && onlyClean state
-unfolding onlyClean codeOf
+unfolding onlyClean
 only-clean Clean true = refl
 only-clean Clean false = refl
 only-clean Dirty true = refl

@@ -9,21 +9,18 @@ use native.Mathlib.Nat.{suc-ne-zero}
 use lib.Dec.{eqb}
 use lib.ListN.{length}
 use borrow.Author.Tests.{not-false}
-use Rattle.words.specs.Words.{blockAt}
 use Rattle.words.proofs.All.{All, done, also, all-append}
 use Rattle.rules.specs.declared.Controller.{Controller}
-use Rattle.rules.specs.declared.State.{State}
 use Rattle.rules.specs.declared.Lookup.{Lookup}
 use Rattle.rules.specs.declared.Lookup.the-variants.{Entry, Nothing}
 use Rattle.rules.specs.declared.Number.{Number}
 use Rattle.rules.specs.declared.Number.the-variants as No
 use Rattle.rules.specs.declared.Answer.{Answer}
-use Rattle.rules.specs.Geometry.{homeBlock}
 use Rattle.rules.specs.TableWords.{lookup, lowestFree}
 use Rattle.rules.specs.Board.{Board, boardOf, tableOf}
 use Rattle.rules.specs.Numbers.{numberOf, Check, _⇒_, firstOf, commonChecks, outOfRange}
 use Rattle.rules.specs.Power.{Plan, Outcome, guard, settle, outcomeOf}
-use Rattle.rules.specs.Loads.{spotIn, shows, spotOf, blockIn, visible, seen, loadNumber}
+use Rattle.rules.specs.Loads.{spotOf, blockIn, visible, seen, loadNumber}
 use Rattle.rules.specs.Stores.{replaced, stores, moveIn, slotFor, full, storeNumber, moved, movedTo, storePlan}
 use Rattle.rules.specs.Stores as S
 use Rattle.rules.specs.Calls.{store, plan, call}
@@ -34,20 +31,20 @@ use Rattle.checks.specs.Tables.{slotOf}
 use Rattle.checks.specs.Answers.{refusedOf}
 use Rattle.checks.proofs.Passed.{hit, miss, none-applies, accepting, stopped, Refuses, refuses, go-on, common-refuses}
 use Rattle.checks.proofs.Settled.{guard-on, refused-is}
-use Rattle.loads.proofs.Laws.{load-checks}
+use Rattle.loads.proofs.Laws.{load-checks, slot-lt}
 
 -- ---- the slot
 
-pub free-lt : (slot : ℕ) (table : List ℕ) → some slot ≡ lowestFree table → slot < length table
+free-lt : (slot : ℕ) (table : List ℕ) → some slot ≡ lowestFree table → slot < length table
 free-lt slot table e = vacant-lt (subst (VacantAt table) (sym e) (vacant table))
 
-pub slot-entry : {found : Lookup} (slot : ℕ) (state : State) (lowest : Option ℕ) → found ≡ Entry slot state → slotFor found lowest ≡ some slot
+pub taken-lt : (block slot : ℕ) (table : List ℕ) {found : Lookup} → found ≡ lookup block table → some slot ≡ slotFor found (lowestFree table) → slot < length table
 unfolding slotFor
-slot-entry slot state lowest e = rw e
-
-pub slot-new : {found : Lookup} (lowest : Option ℕ) → found ≡ Nothing → slotFor found lowest ≡ lowest
-unfolding slotFor
-slot-new lowest e = rw e
+taken-lt block slot table {found} e = go found refl
+  where
+    go : (x : Lookup) → found ≡ x → some slot ≡ slotFor x (lowestFree table) → slot < length table
+    go (Entry k state) q s = let h : slot ≡ k = cc in subst (λ (z : ℕ). z < length table) (sym h) (slot-lt block k table e q)
+    go Nothing q s = free-lt slot table s
 
 pub free-at : {free : FreeSlot} {lowest : Option ℕ} (slot : ℕ) → slotOf free ≡ lowest → free ≡ F.At slot → some slot ≡ lowest
 free-at slot e f = sym (ap slotOf f) ∙ e
@@ -143,26 +140,3 @@ module _ (p : ℕ) (memory cache table : List ℕ) (controller : Controller) (bl
       ∙ ap (λ (z : List ℕ). settle p board (moved board block slot z row)) (sym f)
       ∙ ap (λ (z : S.Move). settle p board (moved board block slot fresh z)) (sym m)
       ∙ q
-
-  -- by its entry
-  pub store-entry : (slot : ℕ) (state : State) {fresh : List ℕ} {next : S.Move} {outcome : Outcome}
-      → numberOf (loadNumber board block offset (length bytes)) ≡ 0
-      → Entry slot state ≡ lookup block table
-      → fresh ≡ replaced (blockIn memory cache (spotIn (controller .geometry) block slot (shows state))) offset bytes
-      → next ≡ moveIn (controller .phase) (stores (Entry slot state))
-      → settle p board (moved board block slot fresh next) ≡ outcome
-      → call p board (store block offset bytes) ≡ outcome
-  unfolding slotFor spotOf
-  store-entry slot state n e f m q = store-goes n e refl f m q
-
-  -- without one
-  pub store-new : (slot : ℕ) {fresh : List ℕ} {next : S.Move} {outcome : Outcome}
-      → numberOf (loadNumber board block offset (length bytes)) ≡ 0
-      → Nothing ≡ lookup block table
-      → some slot ≡ lowestFree table
-      → fresh ≡ replaced (blockAt memory (homeBlock (controller .geometry) block)) offset bytes
-      → next ≡ moveIn (controller .phase) (stores Nothing)
-      → settle p board (moved board block slot fresh next) ≡ outcome
-      → call p board (store block offset bytes) ≡ outcome
-  unfolding slotFor spotOf blockIn
-  store-new slot n e s f m q = store-goes n e (sym s) f m q

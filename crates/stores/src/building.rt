@@ -1,12 +1,15 @@
 // The new block of a store: the visible block with the bytes replaced (document 01, Stores).
 ghost use mathlib.Core.Path.{_≡_};
-ghost use Prim.Native.Nat.{_+_, _*_, _≤_, _<_};
+ghost use Prim.Native.Nat.{ℕ, _+_, _*_, _≤_, _<_};
 ghost use lib.ListN.{length};
 ghost use Rattle.words.specs.Words.{blockAt};
+ghost use Rattle.rules.specs.declared.Lookup.the-variants as L;
+ghost use Rattle.rules.specs.declared.State as S;
 ghost use Rattle.rules.specs.Geometry.{memoryWords, homeBlock};
-ghost use Rattle.rules.specs.Loads.{shows, spotIn, blockIn};
+ghost use Rattle.rules.specs.Loads.{shows, spotIn, spotOf, blockIn};
 ghost use Rattle.rules.specs.Stores.{replaced};
 use rules::Geometry;
+use rules::Lookup;
 use rules::State;
 
 // Bytes laid over those of a block; the rest of the block stays.
@@ -47,4 +50,32 @@ pub fn built_entry(
     blocks::copy_entry(memory, cache, g, block, slot, state, 0, &mut fresh);
     lay_over(&mut fresh, offset, bytes);
     fresh
+}
+
+// The new block, by what the lookup found.
+pub fn built(
+    memory: &[u8],
+    cache: &[u8],
+    g: Geometry,
+    block: usize,
+    found: Lookup,
+    offset: usize,
+    bytes: &[u8],
+) -> [u8; 64]
+    requires { ⌜ (block < g .blocks) × ((slot : ℕ) (state : S.State) → found ≡ L.Entry slot state → slot < g .slots) × (length (now memory) ≡ 8 * memoryWords g) × (length (now cache) ≡ 64 * g .slots) × (offset + length (now bytes) ≤ 64) ⌝ }
+    ensures { λ r. ⌜ r ≡ replaced (blockIn (now (memory .entry)) (now (cache .entry)) (spotOf g block found)) offset (now (bytes .entry)) ⌝ }
+{
+    match found {
+        Lookup::Entry { slot, state } => built_entry(
+            memory,
+            cache,
+            g,
+            block,
+            slot,
+            state,
+            offset,
+            bytes,
+        ),
+        Lookup::Nothing => built_home(memory, g, block, offset, bytes),
+    }
 }

@@ -1,30 +1,29 @@
 // Store: 1 to 64 bytes of one block replaced (document 01, Stores).
 ghost use mathlib.Core.Path.{_≡_};
+ghost use Prim.Native.Nat.{_<_};
 ghost use Rattle.rules.specs.TableWords as W;
 ghost use Rattle.rules.specs.Board.{boardOf};
 ghost use Rattle.rules.specs.Power.{outcomeOf};
 ghost use Rattle.rules.specs.Stores as S;
 ghost use Rattle.rules.specs.Calls as C;
-use building::built_entry;
-use building::built_home;
+ghost use Rattle.checks.specs.Tables.{Formed};
+use building::built;
 use checks::answers::refused;
 use checks::numbers::accepted;
 use checks::table::FreeSlot;
 use checks::table::seat_for;
 use loads::load_number;
-use moves::move_entry;
-use moves::move_new;
+use moves::move_for;
 use placing::store_at;
 use rules::Answer;
 use rules::Controller;
-use rules::Lookup;
 use rules::Number;
 
 pub mod building;
 pub mod moves;
 pub mod placing;
 
-// The table is walked twice: for its words' form, and once for all that the store needs of it.
+// The table is walked for its words' form, then for the block's entry and, where it has none, for a free slot.
 pub fn store(
     memory: &mut [u8],
     cache: &mut [u8],
@@ -37,35 +36,29 @@ pub fn store(
 ) -> Answer
     ensures { λ r. ⌜ C.call p (boardOf (now (memory .entry)) (now (cache .entry)) (now (table .entry)) controller) (C.store block offset (now (bytes .entry))) ≡ outcomeOf r (now (memory .exit)) (now (cache .exit)) (now (table .exit)) ⌝ }
 {
-    let number = load_number(memory, cache, table, controller, block, offset, bytes.len());
+    let g = controller.geometry;
+    let phase = controller.phase;
+    let number = load_number(
+        memory.len(),
+        cache.len(),
+        table,
+        g,
+        phase,
+        block,
+        offset,
+        bytes.len(),
+    );
     if !accepted(number) {
         return refused(number, controller);
     }
-    let g = controller.geometry;
-    let phase = controller.phase;
     let seat = seat_for(table, block);
-    let found = seat.found;
-    let Lookup::Entry { slot, state } = found else {
-        let free = seat.free;
-        let FreeSlot::At(slot) = free else {
-            return refused(Number::Full, controller);
-        };
-        let next = move_new(phase);
-        let fresh = built_home(memory, g, block, offset, bytes);
-        return store_at(
-            memory,
-            cache,
-            table,
-            controller,
-            block,
-            slot,
-            &fresh,
-            next,
-            p,
-        );
+    let taken = seat.slot;
+    let FreeSlot::At(slot) = taken else {
+        return refused(Number::Full, controller);
     };
-    let next = move_entry(phase, state);
-    let fresh = built_entry(memory, cache, g, block, slot, state, offset, bytes);
+    let found = seat.found;
+    let next = move_for(phase, found);
+    let fresh = built(memory, cache, g, block, found, offset, bytes);
     store_at(
         memory,
         cache,
@@ -91,7 +84,18 @@ pub fn store_number(
 ) -> Number
     ensures { λ r. ⌜ r ≡ S.storeNumber (boardOf (now (memory .entry)) (now (cache .entry)) (now (table .entry)) controller) block offset (now (bytes .entry)) ⌝ }
 {
-    let number = load_number(memory, cache, table, controller, block, offset, bytes.len());
+    let g = controller.geometry;
+    let phase = controller.phase;
+    let number = load_number(
+        memory.len(),
+        cache.len(),
+        table,
+        g,
+        phase,
+        block,
+        offset,
+        bytes.len(),
+    );
     if !accepted(number) {
         return number;
     }
@@ -103,16 +107,13 @@ pub fn store_number(
 
 // 7 FULL
 pub fn full(table: &[u64], block: usize) -> bool
+    requires { ⌜ Formed (now table) × (block < 4096) ⌝ }
     ensures { λ r. ⌜ r ≡ S.full (S.slotFor (W.lookup block (now (table .entry))) (W.lowestFree (now (table .entry)))) ⌝ }
 {
     let seat = seat_for(table, block);
-    let found = seat.found;
-    let Lookup::Entry { .. } = found else {
-        let free = seat.free;
-        let FreeSlot::At(_) = free else {
-            return true;
-        };
-        return false;
+    let taken = seat.slot;
+    let FreeSlot::At(_) = taken else {
+        return true;
     };
     false
 }

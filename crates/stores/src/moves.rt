@@ -5,6 +5,7 @@ ghost use Rattle.rules.specs.declared.Lookup.the-variants as L;
 ghost use Rattle.rules.specs.declared.Phase.the-variants as P;
 ghost use Rattle.rules.specs.Stores.{moveIn, stores};
 ghost use Rattle.stores.specs.Moves.{moveOf};
+use rules::Lookup;
 use rules::Phase;
 use rules::Place;
 use rules::State;
@@ -59,5 +60,15 @@ pub fn move_new(phase: Phase) -> Move
         Phase::Running => Move::To(Place::Checkpoint, State::Dirty),
         Phase::Writing(_) => Move::To(Place::Cache, State::PreDirty),
         Phase::Off => Move::NotWellFormed,
+    }
+}
+
+// The row and the column of a store, by what the lookup found.
+pub fn move_for(phase: Phase, found: Lookup) -> Move
+    ensures { λ r. ⌜ moveOf r ≡ moveIn phase (stores found) ⌝ }
+{
+    match found {
+        Lookup::Entry { state, .. } => move_entry(phase, state),
+        Lookup::Nothing => move_new(phase),
     }
 }

@@ -1,10 +1,10 @@
 -- Words that all hold one byte.
 use mathlib.Core.Path.{_≡_, refl, sym, ap, _∙_, subst}
-use mathlib.Core.List.{List, [], _∷_, _++_, append-nil}
-use Prim.Native.Nat.{ℕ, zero, suc, _+_, _*_, _-_, _≤_, _<_}
+use mathlib.Core.List.{List, [], _∷_, append-nil}
+use Prim.Native.Nat.{ℕ, zero, suc, _+_, _*_, _-_, _≤_}
 use native.Mathlib.Omega.{arith}
 use native.Mathlib.Nat.{zero-add, not-suc-le-zero}
-use lib.ListN.{length, replicate, length-replicate, take, drop}
+use lib.ListN.{replicate, length-replicate, take, drop}
 use lib.Seq.{drop-drop, take-take}
 use Rattle.words.specs.Words.{word, words, fillTo, number, numbers}
 use Rattle.words.proofs.All.{All}

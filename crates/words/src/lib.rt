@@ -1,8 +1,9 @@
 // Words laid in a part of a memory under an allowance, and bytes and numbers read from it.
 ghost use mathlib.Core.Path.{_≡_};
 ghost use mathlib.Core.List.{[], _∷_};
-ghost use Prim.Native.Nat.{_+_, _*_, _-_, _≤_, _<_, min};
+ghost use Prim.Native.Nat.{ℕ, _+_, _*_, _-_, _≤_, _<_, min};
 ghost use lib.ListN.{length, take, drop};
+ghost use lib.Seq.{paste};
 ghost use Rattle.words.specs.Words.{Lays, bytesTo, fillTo, numbersTo, number, word, littleEndian};
 
 pub fn least(one: usize, other: usize) -> usize
@@ -18,19 +19,34 @@ pub fn left_of(p: usize, done: usize) -> usize
     if done < p { p - done } else { 0 }
 }
 
+// So many bytes put from a start on.
+pub fn put_bytes(part: &mut [u8], start: usize, bytes: &[u8], count: usize)
+    requires { ⌜ (start + count ≤ length (now part)) × (count ≤ length (now bytes)) ⌝ }
+    ensures { λ _. ⌜ now (part .exit) ≡ paste (now (part .entry)) start (now (bytes .entry)) count ⌝ }
+{
+    let mut j = 0;
+    while j < count {
+        part[start + j] = bytes[j];
+        j += 1;
+    }
+}
+
 // Every function that lays a list returns how many words the whole list has, so that `p < words` says that the supply stopped.
 pub fn lay_bytes(part: &mut [u8], place: usize, bytes: &[u8], count: usize, p: usize) -> usize
     requires { ⌜ (8 * (place + count) ≤ length (now part)) × (8 * count ≤ length (now bytes)) ⌝ }
     ensures { λ r. ⌜ Lays p (bytesTo place count (now (bytes .entry))) (now (part .entry)) (now (part .exit)) r ⌝ }
 {
-    let start = 8 * place;
-    let copied = 8 * least(p, count);
-    let mut j = 0;
-    while j < copied {
-        part[start + j] = bytes[j];
-        j += 1;
-    }
+    put_bytes(part, 8 * place, bytes, 8 * least(p, count));
     count
+}
+
+// A block where the allowance is enough. Its length is left open here: where this is used on an array, the length is known and so is what lies apart.
+pub fn lay_block(part: &mut [u8], place: usize, block: &[u8]) -> usize
+    requires { ⌜ (8 * (place + 8) ≤ length (now part)) × (length (now block) ≡ 64) ⌝ }
+    ensures { λ r. ⌜ ((p : ℕ) → 8 ≤ p → Lays p (bytesTo place 8 (now (block .entry))) (now (part .entry)) (now (part .exit)) r) ⌝ }
+{
+    put_bytes(part, 8 * place, block, block.len());
+    block.len() / 8
 }
 
 pub fn fill_words(part: &mut [u8], place: usize, count: usize, fill: u8, p: usize) -> usize
@@ -98,9 +114,10 @@ pub fn number_at(part: &[u8], place: usize) -> u64
     let byte5 = wide(part[start + 5]);
     let byte6 = wide(part[start + 6]);
     let byte7 = wide(part[start + 7]);
-    let low = byte0 + 256 * (byte1 + 256 * (byte2 + 256 * byte3));
-    let high = byte4 + 256 * (byte5 + 256 * (byte6 + 256 * byte7));
-    low + 4294967296 * high
+    // from the lowest byte up, a form in which a compiler sees one load
+    let low = byte0 + 256 * byte1 + 65536 * byte2 + 16777216 * byte3;
+    let most = low + 4294967296 * byte4 + 1099511627776 * byte5;
+    most + 281474976710656 * byte6 + 72057594037927936 * byte7
 }
 
 // Fills `into` from a part, from its byte `start` on.

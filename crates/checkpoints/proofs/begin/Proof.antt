@@ -1,9 +1,8 @@
-use mathlib.Core.Path.{sym, _∙_}
 use denote.Ref.{now}
 use borrow.Author.Tests.{not-true, not-false}
 use Rattle.rules.specs.declared.Number.the-variants as No
 use Rattle.checks.proofs.Passed.{refusing, accepting}
-use Rattle.checkpoints.proofs.Calls.{begin-stops, begin-busy, begin-accepted, busy-refuses, begins, begin-refused, begin-cut, begin-whole}
+use Rattle.checkpoints.proofs.Calls.{begin-stops, begin-busy, begin-accepted, begin-known, busy-refuses, begin-refused, begin-cut, begin-whole}
 use borrow.Author.Needs.{needs}
 use Rattle.checkpoints.proofs.begin.Statement.{statement}
 use Rattle.checkpoints.proofs.begin.Tie as tie
@@ -68,13 +67,7 @@ returns-2 c =
 lay-copies-requires : tie.Need-lay-copies-requires
 lay-copies-requires c κs =
     let a = c .before .before .before .before .before .before .before .before .before .before .before .before .before .before .before .args in
-    let m = now (a .memory) in
-    let x = now (a .cache) in
-    let t = now (a .table) in
-    let k = a .controller in
-    let rs = now (a .registers) in
-    let d = begin-accepted m x t k rs _ _ (c .before .before .before .before .before .before .before .before .count-begin .ensures .0) (c .before .before .before .before .before .before .before .accepted .ensures) (c .before .before .before .before .before .before .if1 .left) (c .before .before .before .before .before .is-writing .ensures) (c .before .before .before .before .if2 .left) in
-    let s = begins m x t k rs d (sym (c .before .before .before .before .before .is-writing .ensures) ∙ c .before .before .before .before .if2 .left) in
+    let s = begin-known (now (a .memory)) (now (a .cache)) (now (a .table)) (a .controller) (now (a .registers)) _ _ (c .before .before .before .before .before .before .before .before .count-begin .ensures .0) (c .before .before .before .before .before .before .before .accepted .ensures) (c .before .before .before .before .before .before .if1 .left) (c .before .before .before .before .before .is-writing .ensures) (c .before .before .before .before .if2 .left) in
     (s .ready, s .formed)
 
 -- src/lib.rt:54:13
@@ -103,33 +96,20 @@ returns-3 c =
     let k = a .controller in
     let rs = now (a .registers) in
     let d = begin-accepted m x t k rs _ _ (c .before .before .before .before .before .before .before .before .before .before .before .before .before .count-begin .ensures .0) (c .before .before .before .before .before .before .before .before .before .before .before .before .accepted .ensures) (c .before .before .before .before .before .before .before .before .before .before .before .if1 .left) (c .before .before .before .before .before .before .before .before .before .before .is-writing .ensures) (c .before .before .before .before .before .before .before .before .before .if2 .left) in
-    let s = begins m x t k rs d (sym (c .before .before .before .before .before .before .before .before .before .before .is-writing .ensures) ∙ c .before .before .before .before .before .before .before .before .before .if2 .left) in
     begin-cut m x t k rs (a .p) d _ (c .before .before .before .before .before .before .before .before .before .before .before .before .before .count-begin .ensures .1 (accepting _ (c .before .before .before .before .before .before .before .before .before .before .before .before .accepted .ensures) (not-false _ (c .before .before .before .before .before .before .before .before .before .before .before .if1 .left)))) _ _ _ (c .before .before .before .before .before .before .before .if3 .taken) (c .before .before .before .before .lay-copies .ensures) (c .reply .ensures) (c .before .switched-off .ensures)
 
 -- src/lib.rt:57:5
 begin-slots-requires : tie.Need-begin-slots-requires
 begin-slots-requires c κs =
     let a = c .before .before .before .before .before .before .before .before .before .before .before .before .before .before .before .args in
-    let m = now (a .memory) in
-    let x = now (a .cache) in
-    let t = now (a .table) in
-    let k = a .controller in
-    let rs = now (a .registers) in
-    let d = begin-accepted m x t k rs _ _ (c .before .before .before .before .before .before .before .before .count-begin .ensures .0) (c .before .before .before .before .before .before .before .accepted .ensures) (c .before .before .before .before .before .before .if1 .left) (c .before .before .before .before .before .is-writing .ensures) (c .before .before .before .before .if2 .left) in
-    let s = begins m x t k rs d (sym (c .before .before .before .before .before .is-writing .ensures) ∙ c .before .before .before .before .if2 .left) in
+    let s = begin-known (now (a .memory)) (now (a .cache)) (now (a .table)) (a .controller) (now (a .registers)) _ _ (c .before .before .before .before .before .before .before .before .count-begin .ensures .0) (c .before .before .before .before .before .before .before .accepted .ensures) (c .before .before .before .before .before .before .if1 .left) (c .before .before .before .before .before .is-writing .ensures) (c .before .before .before .before .if2 .left) in
     (s .ready, s .formed)
 
 -- src/lib.rt:58:9
 begun-requires : tie.Need-begun-requires
 begun-requires c κs =
     let a = c .before .before .before .before .before .before .before .before .before .before .before .before .before .before .before .before .before .before .before .before .args in
-    let m = now (a .memory) in
-    let x = now (a .cache) in
-    let t = now (a .table) in
-    let k = a .controller in
-    let rs = now (a .registers) in
-    let d = begin-accepted m x t k rs _ _ (c .before .before .before .before .before .before .before .before .before .before .before .before .before .count-begin .ensures .0) (c .before .before .before .before .before .before .before .before .before .before .before .before .accepted .ensures) (c .before .before .before .before .before .before .before .before .before .before .before .if1 .left) (c .before .before .before .before .before .before .before .before .before .before .is-writing .ensures) (c .before .before .before .before .before .before .before .before .before .if2 .left) in
-    let s = begins m x t k rs d (sym (c .before .before .before .before .before .before .before .before .before .before .is-writing .ensures) ∙ c .before .before .before .before .before .before .before .before .before .if2 .left) in
+    let s = begin-known (now (a .memory)) (now (a .cache)) (now (a .table)) (a .controller) (now (a .registers)) _ _ (c .before .before .before .before .before .before .before .before .before .before .before .before .before .count-begin .ensures .0) (c .before .before .before .before .before .before .before .before .before .before .before .before .accepted .ensures) (c .before .before .before .before .before .before .before .before .before .before .before .if1 .left) (c .before .before .before .before .before .before .before .before .before .before .is-writing .ensures) (c .before .before .before .before .before .before .before .before .before .if2 .left) in
     s .eight
 
 -- src/lib.rt:59:5
@@ -154,7 +134,6 @@ returns-4 c =
     let k = a .controller in
     let rs = now (a .registers) in
     let d = begin-accepted m x t k rs _ _ (c .before .before .before .before .before .before .before .before .before .before .before .before .before .before .before .count-begin .ensures .0) (c .before .before .before .before .before .before .before .before .before .before .before .before .before .before .accepted .ensures) (c .before .before .before .before .before .before .before .before .before .before .before .before .before .if1 .left) (c .before .before .before .before .before .before .before .before .before .before .before .before .is-writing .ensures) (c .before .before .before .before .before .before .before .before .before .before .before .if2 .left) in
-    let s = begins m x t k rs d (sym (c .before .before .before .before .before .before .before .before .before .before .before .before .is-writing .ensures) ∙ c .before .before .before .before .before .before .before .before .before .before .before .if2 .left) in
     begin-whole m x t k rs (a .p) d _ (c .before .before .before .before .before .before .before .before .before .before .before .before .before .before .before .count-begin .ensures .1 (accepting _ (c .before .before .before .before .before .before .before .before .before .before .before .before .before .before .accepted .ensures) (not-false _ (c .before .before .before .before .before .before .before .before .before .before .before .before .before .if1 .left)))) _ _ _ _ (c .before .before .before .before .before .before .before .before .before .if3 .left) (c .before .before .before .before .before .before .begin-slots .ensures .0) (c .before .before .before .before .before .before .begin-slots .ensures .1) (c .reply2 .ensures) (c .before .begun .ensures)
 
 pub begin-spec : {M : Type 1} → statement M

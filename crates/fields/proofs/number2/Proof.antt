@@ -23,7 +23,9 @@ length-of-requires c κs = search needs
 
 -- src/lib.rt:18:1
 returns : tie.Need-returns
-returns c = let a = c .before .before .before .before .args in rw (two-at (now (a .value)) (a .start) (omega arith)) (c .length-of .ensures)
+returns c =
+    let a = c .before .before .before .before .args in
+    rw (two-at (now (a .value)) (a .start) (omega arith)) (c .length-of .ensures)
 
 pub number2-spec : {M : Type 1} → statement M
 number2-spec =

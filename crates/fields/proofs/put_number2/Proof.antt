@@ -38,7 +38,9 @@ same-length c = search needs
 -- src/lib.rt:26:1
 returns : tie.Need-returns
 unfolding bigEndian
-returns c = let a = c .args in puts-two (now (a .into)) (a .start) _ _
+returns c =
+    let a = c .args in
+    puts-two (now (a .into)) (a .start) _ _
 
 pub put-number2-spec : {M : Type 1} → statement M
 put-number2-spec =

@@ -43,7 +43,9 @@ loop-less c = omega arith
 
 -- src/lib.rt:22:5
 loop-again : tie.Need-loop-again Inv-loop μ-loop
-loop-again c = let l = c .before .before .loop in (omega arith, simp length-set (l .inv .1), puts-turn (now (c .before .before .before .args .bytes)) (l .j) (omega arith) (l .inv .2))
+loop-again c =
+    let l = c .before .before .loop in
+    (omega arith, simp length-set (l .inv .1), puts-turn (now (c .before .before .before .args .bytes)) (l .j) (omega arith) (l .inv .2))
 
 -- src/lib.rt:26:5
 add-result : tie.Need-add-result Inv-loop μ-loop

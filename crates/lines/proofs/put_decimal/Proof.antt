@@ -35,11 +35,15 @@ digit-requires c κs = omega arith
 
 -- src/lib.rt:59:9
 slice-write-into : tie.Need-slice-write-into Inv-loop μ-loop
-slice-write-into c = let l = c .before .before .loop in omega (arith, l .inv .2 .last, room-64 (l .rest) (omega (arith, l .inv .1)))
+slice-write-into c =
+    let l = c .before .before .loop in
+    omega (arith, l .inv .2 .last, room-64 (l .rest) (omega (arith, l .inv .1)))
 
 -- src/lib.rt:61:9
 sub-place-2 : tie.Need-sub-place-2 Inv-loop μ-loop
-sub-place-2 c = let l = c .before .before .loop in omega (arith, l .inv .2 .last, length-more (l .rest) (omega arith), some-digit (l .rest / 10))
+sub-place-2 c =
+    let l = c .before .before .loop in
+    omega (arith, l .inv .2 .last, length-more (l .rest) (omega arith), some-digit (l .rest / 10))
 
 -- src/lib.rt:58:5
 loop-less : tie.Need-loop-less Inv-loop μ-loop
@@ -47,7 +51,9 @@ loop-less c = omega arith
 
 -- src/lib.rt:58:5
 loop-again : tie.Need-loop-again Inv-loop μ-loop
-loop-again c = let l = c .before .before .loop in (simp length-set (l .inv .0), omega arith, put-next (c .digit .result) (c .digit .ensures) (omega arith) (l .inv .2))
+loop-again c =
+    let l = c .before .before .loop in
+    (simp length-set (l .inv .0), omega arith, put-next (c .digit .result) (c .digit .ensures) (omega arith) (l .inv .2))
 
 -- src/lib.rt:63:19
 digit-requires-2 : tie.Need-digit-requires-2 Inv-loop μ-loop
@@ -55,7 +61,9 @@ digit-requires-2 c κs = omega arith
 
 -- src/lib.rt:63:5
 slice-write-into-2 : tie.Need-slice-write-into-2 Inv-loop μ-loop
-slice-write-into-2 c = let l = c .before .before .loop in omega (arith, l .inv .2 .last, room-64 (l .rest) (omega arith))
+slice-write-into-2 c =
+    let l = c .before .before .loop in
+    omega (arith, l .inv .2 .last, room-64 (l .rest) (omega arith))
 
 -- src/lib.rt:50:1
 same-length : tie.Need-same-length Inv-loop μ-loop

@@ -29,7 +29,9 @@ shared-slice-read-put-hex-byte c = omega arith
 
 -- src/lib.rt:90:9
 put-hex-byte-requires : tie.Need-put-hex-byte-requires Inv-loop μ-loop
-put-hex-byte-requires c κs = let l = c .before .before .before .loop in omega (arith, hex-place (now (c .before .before .before .before .before .before .args .bytes)) (l .j) (l .inv .0) (l .inv .2))
+put-hex-byte-requires c κs =
+    let l = c .before .before .before .loop in
+    omega (arith, hex-place (now (c .before .before .before .before .before .before .args .bytes)) (l .j) (l .inv .0) (l .inv .2))
 
 -- src/lib.rt:91:9
 add-j : tie.Need-add-j Inv-loop μ-loop
@@ -41,7 +43,9 @@ loop-less c = omega arith
 
 -- src/lib.rt:89:5
 loop-again : tie.Need-loop-again Inv-loop μ-loop
-loop-again c = let l = c .before .before .before .before .before .before .loop in (omega arith, search needs, hex-turn (now (c .before .before .before .before .before .before .before .before .before .args .bytes)) (l .j) (omega arith) (l .inv .2) (c .before .before .put-hex-byte .ensures))
+loop-again c =
+    let l = c .before .before .before .before .before .before .loop in
+    (omega arith, search needs, hex-turn (now (c .before .before .before .before .before .before .before .before .before .args .bytes)) (l .j) (omega arith) (l .inv .2) (c .before .before .put-hex-byte .ensures))
 
 -- src/lib.rt:83:1
 same-length : tie.Need-same-length Inv-loop μ-loop

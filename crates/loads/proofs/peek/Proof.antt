@@ -43,7 +43,11 @@ returns c =
 
 -- src/lib.rt:120:41
 lookup-requires : tie.Need-lookup-requires
-lookup-requires c κs = search needs
+lookup-requires c κs =
+    let a = c .before .before .before .before .before .before .before .args in
+    let done = accepting _ (c .before .before .accepted .ensures) (not-false _ (c .before .if1 .left)) in
+    let o = peek-passed (now (a .memory)) (now (a .cache)) (now (a .table)) (a .controller) (a .block) (c .before .before .before .peek-number .ensures) done in
+    (o .2, omega (arith, o .0 .blocks, o .1))
 
 -- src/lib.rt:120:25
 enum-known-slot : tie.Need-enum-known-slot

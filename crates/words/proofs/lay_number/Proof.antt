@@ -21,7 +21,9 @@ same-length c = search needs
 
 -- src/lib.rt:73:1
 returns : tie.Need-returns
-returns c = let a = c .before .before .before .before .before .before .before .args in lays-number (a .p) (a .place) (a .value) (c .before .before .before .before .before .word-bytes .result) (c .before .before .before .before .before .word-bytes .ensures) (c .before .before .lay-bytes .ensures)
+returns c =
+    let a = c .before .before .before .before .before .before .before .args in
+    lays-number (a .p) (a .place) (a .value) (c .before .before .before .before .before .word-bytes .result) (c .before .before .before .before .before .word-bytes .ensures) (c .before .before .lay-bytes .ensures)
 
 pub lay-number-spec : {M : Type 1} → statement M
 lay-number-spec =

@@ -7,162 +7,164 @@ use borrow.Author.Needs.{needs}
 use Rattle.words.proofs.number_at.Statement.{statement}
 use Rattle.words.proofs.number_at.Tie as tie
 
--- src/lib.rt:92:17
+-- src/lib.rt:108:17
 mul-start : tie.Need-mul-start
 mul-start c = search needs
 
--- src/lib.rt:93:22
+-- src/lib.rt:109:22
 shared-slice-read-wide : tie.Need-shared-slice-read-wide
 shared-slice-read-wide c = search needs
 
--- src/lib.rt:93:9
+-- src/lib.rt:109:9
 wide-requires : tie.Need-wide-requires
 wide-requires c κs = search needs
 
--- src/lib.rt:94:27
+-- src/lib.rt:110:27
 add-wide : tie.Need-add-wide
 add-wide c = search needs
 
--- src/lib.rt:94:22
+-- src/lib.rt:110:22
 shared-slice-read-wide-2 : tie.Need-shared-slice-read-wide-2
 shared-slice-read-wide-2 c = search needs
 
--- src/lib.rt:94:9
+-- src/lib.rt:110:9
 wide-requires-2 : tie.Need-wide-requires-2
 wide-requires-2 c κs = search needs
 
--- src/lib.rt:95:27
+-- src/lib.rt:111:27
 add-wide-2 : tie.Need-add-wide-2
 add-wide-2 c = search needs
 
--- src/lib.rt:95:22
+-- src/lib.rt:111:22
 shared-slice-read-wide-3 : tie.Need-shared-slice-read-wide-3
 shared-slice-read-wide-3 c = search needs
 
--- src/lib.rt:95:9
+-- src/lib.rt:111:9
 wide-requires-3 : tie.Need-wide-requires-3
 wide-requires-3 c κs = search needs
 
--- src/lib.rt:96:27
+-- src/lib.rt:112:27
 add-wide-3 : tie.Need-add-wide-3
 add-wide-3 c = search needs
 
--- src/lib.rt:96:22
+-- src/lib.rt:112:22
 shared-slice-read-wide-4 : tie.Need-shared-slice-read-wide-4
 shared-slice-read-wide-4 c = search needs
 
--- src/lib.rt:96:9
+-- src/lib.rt:112:9
 wide-requires-4 : tie.Need-wide-requires-4
 wide-requires-4 c κs = search needs
 
--- src/lib.rt:97:27
+-- src/lib.rt:113:27
 add-wide-4 : tie.Need-add-wide-4
 add-wide-4 c = search needs
 
--- src/lib.rt:97:22
+-- src/lib.rt:113:22
 shared-slice-read-wide-5 : tie.Need-shared-slice-read-wide-5
 shared-slice-read-wide-5 c = search needs
 
--- src/lib.rt:97:9
+-- src/lib.rt:113:9
 wide-requires-5 : tie.Need-wide-requires-5
 wide-requires-5 c κs = search needs
 
--- src/lib.rt:98:27
+-- src/lib.rt:114:27
 add-wide-5 : tie.Need-add-wide-5
 add-wide-5 c = search needs
 
--- src/lib.rt:98:22
+-- src/lib.rt:114:22
 shared-slice-read-wide-6 : tie.Need-shared-slice-read-wide-6
 shared-slice-read-wide-6 c = search needs
 
--- src/lib.rt:98:9
+-- src/lib.rt:114:9
 wide-requires-6 : tie.Need-wide-requires-6
 wide-requires-6 c κs = search needs
 
--- src/lib.rt:99:27
+-- src/lib.rt:115:27
 add-wide-6 : tie.Need-add-wide-6
 add-wide-6 c = search needs
 
--- src/lib.rt:99:22
+-- src/lib.rt:115:22
 shared-slice-read-wide-7 : tie.Need-shared-slice-read-wide-7
 shared-slice-read-wide-7 c = search needs
 
--- src/lib.rt:99:9
+-- src/lib.rt:115:9
 wide-requires-7 : tie.Need-wide-requires-7
 wide-requires-7 c κs = search needs
 
--- src/lib.rt:100:27
+-- src/lib.rt:116:27
 add-wide-7 : tie.Need-add-wide-7
 add-wide-7 c = search needs
 
--- src/lib.rt:100:22
+-- src/lib.rt:116:22
 shared-slice-read-wide-8 : tie.Need-shared-slice-read-wide-8
 shared-slice-read-wide-8 c = search needs
 
--- src/lib.rt:100:9
+-- src/lib.rt:116:9
 wide-requires-8 : tie.Need-wide-requires-8
 wide-requires-8 c κs = search needs
 
--- src/lib.rt:101:53
+-- src/lib.rt:118:23
 mul-low : tie.Need-mul-low
 mul-low c = search needs
 
--- src/lib.rt:101:45
+-- src/lib.rt:118:15
 add-low : tie.Need-add-low
 add-low c = search needs
 
--- src/lib.rt:101:38
+-- src/lib.rt:118:37
 mul-low-2 : tie.Need-mul-low-2
 mul-low-2 c = search needs
 
--- src/lib.rt:101:30
+-- src/lib.rt:118:15
 add-low-2 : tie.Need-add-low-2
 add-low-2 c = search needs
 
--- src/lib.rt:101:23
+-- src/lib.rt:118:53
 mul-low-3 : tie.Need-mul-low-3
 mul-low-3 c = search needs
 
--- src/lib.rt:101:15
+-- src/lib.rt:118:15
 add-low-3 : tie.Need-add-low-3
 add-low-3 c = search needs
 
--- src/lib.rt:102:54
-mul-high : tie.Need-mul-high
-mul-high c = search needs
+-- src/lib.rt:119:22
+mul-most : tie.Need-mul-most
+mul-most c = search needs
 
--- src/lib.rt:102:46
-add-high : tie.Need-add-high
-add-high c = search needs
+-- src/lib.rt:119:16
+add-most : tie.Need-add-most
+add-most c = search needs
 
--- src/lib.rt:102:39
-mul-high-2 : tie.Need-mul-high-2
-mul-high-2 c = search needs
+-- src/lib.rt:119:43
+mul-most-2 : tie.Need-mul-most-2
+mul-most-2 c = search needs
 
--- src/lib.rt:102:31
-add-high-2 : tie.Need-add-high-2
-add-high-2 c = search needs
+-- src/lib.rt:119:16
+add-most-2 : tie.Need-add-most-2
+add-most-2 c = search needs
 
--- src/lib.rt:102:24
-mul-high-3 : tie.Need-mul-high-3
-mul-high-3 c = search needs
-
--- src/lib.rt:102:16
-add-high-3 : tie.Need-add-high-3
-add-high-3 c = search needs
-
--- src/lib.rt:103:11
+-- src/lib.rt:120:12
 mul-result : tie.Need-mul-result
 mul-result c = search needs
 
--- src/lib.rt:103:5
+-- src/lib.rt:120:5
 add-result : tie.Need-add-result
 add-result c = search needs
 
--- src/lib.rt:88:1
+-- src/lib.rt:120:38
+mul-result-2 : tie.Need-mul-result-2
+mul-result-2 c = search needs
+
+-- src/lib.rt:120:5
+add-result-2 : tie.Need-add-result-2
+add-result-2 c = search needs
+
+-- src/lib.rt:104:1
 returns : tie.Need-returns
 unfolding number word
-returns c = let a = c .before .before .before .before .before .before .before .before .before .before .before .before .before .before .before .before .before .args in rw (eight (now (a .part)) (8 * a .place) (omega arith)) (omega arith)
+returns c =
+    let a = c .before .before .before .before .before .before .before .before .before .before .before .before .before .before .before .before .before .args in
+    rw (eight (now (a .part)) (8 * a .place) (omega arith)) (omega arith)
 
 pub number-at-spec : {M : Type 1} → statement M
 number-at-spec =
@@ -198,12 +200,12 @@ number-at-spec =
     add-low-2
     mul-low-3
     add-low-3
-    mul-high
-    add-high
-    mul-high-2
-    add-high-2
-    mul-high-3
-    add-high-3
+    mul-most
+    add-most
+    mul-most-2
+    add-most-2
     mul-result
     add-result
+    mul-result-2
+    add-result-2
     returns)

@@ -36,7 +36,9 @@ same-length c = search needs
 
 -- src/backups.rt:67:9
 returns : tie.Need-returns
-returns c = let a = c .before .before .before .before .before .before .before .before .before .args in lays-register (a .place) (a .mark) (now (a .registers)) (map (changed saved) (now (a .table))) (a .index) (c .before .before .before .before .before .if1 .taken) (c .before .before .lay-bytes .ensures)
+returns c =
+    let a = c .before .before .before .before .before .before .before .before .before .args in
+    lays-register (a .place) (a .mark) (now (a .registers)) (map (changed saved) (now (a .table))) (a .index) (c .before .before .before .before .before .if1 .taken) (c .before .before .lay-bytes .ensures)
 
 -- src/backups.rt:71:31
 mul-saved-word : tie.Need-mul-saved-word
@@ -60,7 +62,9 @@ same-length-2 c = search needs
 
 -- src/backups.rt:73:9
 returns-2 : tie.Need-returns-2
-returns-2 c = let a = c .before .before .before .before .before .before .before .before .before .before .before .args in lays-saved (a .place) (a .mark) (now (a .registers)) (now (a .table)) (a .index) _ (c .before .before .before .before .before .before .before .if1 .left) (omega (arith, c .before .before .before .before .before .before .if2 .taken)) (c .before .before .before .before .saved-word .ensures) (c .before .before .lay-number .ensures)
+returns-2 c =
+    let a = c .before .before .before .before .before .before .before .before .before .before .before .args in
+    lays-saved (a .place) (a .mark) (now (a .registers)) (now (a .table)) (a .index) _ (c .before .before .before .before .before .before .before .if1 .left) (omega (arith, c .before .before .before .before .before .before .if2 .taken)) (c .before .before .before .before .saved-word .ensures) (c .before .before .lay-number .ensures)
 
 -- src/backups.rt:75:5
 lay-number-requires-2 : tie.Need-lay-number-requires-2
@@ -72,7 +76,9 @@ same-length-3 c = search needs
 
 -- src/backups.rt:53:1
 returns-3 : tie.Need-returns-3
-returns-3 c = let a = c .before .before .before .before .before .before .before .before .before .args in lays-mark (a .place) (a .mark) (now (a .registers)) (map (changed saved) (now (a .table))) (a .index) (omega (arith, length-map (now (a .table)) (changed saved), c .before .before .before .before .if2 .left, c .before .before .before .before .before .if1 .left, c .before .before .before .before .before .before .before .before .before .pre .1)) (c .before .before .lay-number2 .ensures)
+returns-3 c =
+    let a = c .before .before .before .before .before .before .before .before .before .args in
+    lays-mark (a .place) (a .mark) (now (a .registers)) (map (changed saved) (now (a .table))) (a .index) (omega (arith, length-map (now (a .table)) (changed saved), c .before .before .before .before .if2 .left, c .before .before .before .before .before .if1 .left, c .before .before .before .before .before .before .before .before .before .pre .1)) (c .before .before .lay-number2 .ensures)
 
 pub lay-word-spec : {M : Type 1} → statement M
 lay-word-spec =

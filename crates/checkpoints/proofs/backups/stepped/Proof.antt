@@ -18,7 +18,9 @@ other-requires c κs = search needs
 
 -- src/backups.rt:143:9
 returns : tie.Need-returns
-returns c = let a = c .before .before .before .before .before .args in rw (c .other .ensures, eq-eqb (a .count) (a .controller .geometry .slots + 9) (c .before .if1 .taken))
+returns c =
+    let a = c .before .before .before .before .before .args in
+    rw (c .other .ensures, eq-eqb (a .count) (a .controller .geometry .slots + 9) (c .before .if1 .taken))
 
 -- src/backups.rt:154:31
 cast-t11 : tie.Need-cast-t11
@@ -26,7 +28,9 @@ cast-t11 c = search needs
 
 -- src/backups.rt:134:1
 returns-2 : tie.Need-returns-2
-returns-2 c = let a = c .before .before .before .before .args in rw (ne-eqb (a .count) (a .controller .geometry .slots + 9) (c .if1 .left))
+returns-2 c =
+    let a = c .before .before .before .before .args in
+    rw (ne-eqb (a .count) (a .controller .geometry .slots + 9) (c .if1 .left))
 
 pub stepped-spec : {M : Type 1} → statement M
 stepped-spec = tie.close (tie.spec cast-if1 add-if1 other-requires returns cast-t11 returns-2)

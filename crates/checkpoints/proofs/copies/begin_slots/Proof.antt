@@ -35,16 +35,6 @@ mul-word c = search needs
 slice-read-word : tie.Need-slice-read-word Inv-loop μ-loop
 slice-read-word c = search needs
 
--- src/copies.rt:133:9
-copy-slot-requires : tie.Need-copy-slot-requires Inv-loop μ-loop
-copy-slot-requires c κs =
-    let a = c .before .before .before .before .before .before .before .args in
-    let ready = c .before .before .before .before .before .before .before .pre .0 in
-    let l = c .before .before .before .loop in
-    let h : l .slot < length (now (a .table)) = omega arith in
-    let e = ap (λ (z : List ℕ). getD z (l .slot) 0) (l .inv .4) ∙ not-reached (changed begun) (now (a .table)) (l .slot) in
-    (ap (wellFormed (allows Running) (a .g)) e ∙ slot-formed (wellFormed (allows Running) (a .g)) (now (a .table)) (l .slot) (c .before .before .before .before .before .before .before .pre .1) h, omega arith, omega arith)
-
 -- src/copies.rt:134:23
 begun-word-requires : tie.Need-begun-word-requires Inv-loop μ-loop
 begun-word-requires c κs = search needs
@@ -56,6 +46,16 @@ mul-table c = search needs
 -- src/copies.rt:134:9
 slice-write-table : tie.Need-slice-write-table Inv-loop μ-loop
 slice-write-table c = search needs
+
+-- src/copies.rt:133:9
+copy-whole-requires : tie.Need-copy-whole-requires Inv-loop μ-loop
+copy-whole-requires c κs =
+    let a = c .before .before .before .before .before .before .before .before .args in
+    let ready = c .before .before .before .before .before .before .before .before .pre .0 in
+    let l = c .before .before .before .before .loop in
+    let h : l .slot < length (now (a .table)) = omega arith in
+    let e = ap (λ (z : List ℕ). getD z (l .slot) 0) (l .inv .4) ∙ not-reached (changed begun) (now (a .table)) (l .slot) in
+    record { low = omega (arith, ready .slots, ready .table); formed = ap (wellFormed (allows Running) (a .g)) e ∙ slot-formed (wellFormed (allows Running) (a .g)) (now (a .table)) (l .slot) (c .before .before .before .before .before .before .before .before .pre .1) h; memory = omega (arith, ready .memory, ready .table); cache = omega (arith, ready .cache, ready .table) }
 
 -- src/copies.rt:135:9
 add-slot : tie.Need-add-slot Inv-loop μ-loop
@@ -73,12 +73,12 @@ loop-again c =
     let t = now (a .table) in
     let h : l .slot < length t = omega arith in
     let e : getD (l .table) (l .slot) 0 ≡ getD t (l .slot) 0 = ap (λ (z : List ℕ). getD z (l .slot) 0) (l .inv .4) ∙ not-reached (changed begun) t (l .slot) in
-    let x = c .before .before .before .copy-slot .ensures in (
+    let x = c .before .before .copy-whole .ensures in (
       omega arith,
-      c .before .before .before .copy-slot .kept .0 ∙ l .inv .1,
+      c .before .before .copy-whole .kept .0 ∙ l .inv .1,
       simp length-set (l .inv .2),
       lay-more (a .g) (now (a .cache)) t (l .slot) (now (a .memory)) h (l .inv .3) (rw e at x),
-      rw (c .begun-word .ensures, e, l .inv .4) (one-word-more (changed begun) t (l .slot) h),
+      rw (c .before .before .before .before .begun-word .ensures, e, l .inv .4) (one-word-more (changed begun) t (l .slot) h),
     )
 
 -- src/copies.rt:126:1
@@ -106,10 +106,10 @@ begin-slots-spec =
     loop-holds
     mul-word
     slice-read-word
-    copy-slot-requires
     begun-word-requires
     mul-table
     slice-write-table
+    copy-whole-requires
     add-slot
     loop-less
     loop-again

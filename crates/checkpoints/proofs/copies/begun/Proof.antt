@@ -17,7 +17,9 @@ copy-part-requires c κs = search needs
 
 -- src/copies.rt:140:1
 returns : tie.Need-returns
-returns c = let a = c .before .before .before .before .before .args in ap (begunRecord (a .controller)) (c .before .copy-part .ensures ∙ take-all 64 (now (a .registers)) (omega arith))
+returns c =
+    let a = c .before .before .before .before .before .args in
+    ap (begunRecord (a .controller)) (c .before .copy-part .ensures ∙ take-all 64 (now (a .registers)) (omega arith))
 
 pub begun-spec : {M : Type 1} → statement M
 begun-spec = tie.close (tie.spec slice-aggregate-copy-part copy-part-requires returns)

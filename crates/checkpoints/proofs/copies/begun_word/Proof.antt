@@ -1,7 +1,6 @@
 use mathlib.Core.Path.{refl}
 use native.Mathlib.Omega.{arith}
 use Rattle.rules.specs.declared.State.the-variants.{Clean, Dirty, PreDirty}
-use Rattle.rules.specs.TableWords.{codeOf}
 use Rattle.rules.specs.Checkpoints.{begun}
 use Rattle.checkpoints.proofs.Words.{made-clean, made-free, not-begun}
 use borrow.Author.Needs.{needs}
@@ -18,22 +17,24 @@ sub-result-2 c = search needs
 
 -- src/copies.rt:23:1
 returns : tie.Need-returns
-unfolding codeOf begun
+unfolding begun
 returns c = made-clean begun (c .before .args .word) _ Clean (c .match .keys1) refl (omega arith)
 
 -- src/copies.rt:23:1
 returns-2 : tie.Need-returns-2
-unfolding codeOf begun
+unfolding begun
 returns-2 c = made-clean begun (c .before .args .word) _ Dirty (c .match .keys2) refl (omega arith)
 
 -- src/copies.rt:23:1
 returns-3 : tie.Need-returns-3
-unfolding codeOf begun
+unfolding begun
 returns-3 c = made-clean begun (c .before .args .word) _ PreDirty (c .match .keys3) refl (omega arith)
 
 -- src/copies.rt:23:1
 returns-4 : tie.Need-returns-4
-returns-4 c = let n = c .match .rest in made-free begun (c .before .args .word) (not-begun _ (n .0 .0 .1) (n .0 .1) (n .1))
+returns-4 c =
+    let n = c .match .rest in
+    made-free begun (c .before .args .word) (not-begun _ (n .0 .0 .1) (n .0 .1) (n .1))
 
 pub begun-word-spec : {M : Type 1} → statement M
 begun-word-spec =

@@ -1,67 +1,92 @@
-use native.Mathlib.Omega.{arith}
-use denote.Ref.{now}
-use Prim.Native.Nat.{_+_, _/_, _<_}
-use Rattle.rules.specs.declared.Phase.the-variants.{Running}
+use Rattle.checkpoints.proofs.Slots.{tail-block}
+use Rattle.checkpoints.proofs.Words.{target-inside, copied, not-copied}
+use Rattle.checkpoints.specs.Copies.{targetOf}
 use Rattle.rules.specs.Numbers.{allows}
-use Rattle.checkpoints.proofs.Words.{home-inside, to-home, to-checkpoint, to-nowhere, copied, not-copied}
+use Rattle.rules.specs.declared.Phase.the-variants.{Running}
+use denote.Ref.{now}
+use native.Mathlib.Omega.{arith}
+use mathlib.Core.Path.{refl, sym, ap, _∙_}
 use borrow.Author.Needs.{needs}
 use Rattle.checkpoints.proofs.copies.copy_slot.Statement.{statement}
 use Rattle.checkpoints.proofs.copies.copy_slot.Tie as tie
 
--- src/copies.rt:102:35
-home-start-requires : tie.Need-home-start-requires
-home-start-requires c κs = search needs
+-- src/copies.rt:70:9
+copied-to-requires : tie.Need-copied-to-requires
+copied-to-requires c κs = search needs
 
--- src/copies.rt:102:9
-copy-block-requires : tie.Need-copy-block-requires
-copy-block-requires c κs =
+-- src/copies.rt:71:23
+enum-known-target : tie.Need-enum-known-target
+enum-known-target c = search needs
+
+-- src/copies.rt:72:9
+enum-told : tie.Need-enum-told
+enum-told c = search needs
+
+-- src/copies.rt:72:9
+returns : tie.Need-returns
+returns c =
     let a = c .before .before .before .before .before .args in
-    let h : a .word / 256 < a .g .blocks = home-inside (a .g) (a .slot) (a .word) (allows Running) (c .before .before .before .before .before .pre .0) (c .before .before .if1 .taken) in
-    let e = c .home-start .ensures in
+    not-copied (now (a .cache)) (a .slot) (a .p) (now (a .memory)) (sym (c .before .before .copied-to .ensures) ∙ ap targetOf (c .enum-told .given .1))
+
+-- src/copies.rt:74:16
+mul-from : tie.Need-mul-from
+mul-from c = search needs
+
+-- src/copies.rt:75:23
+mul-lay-bytes : tie.Need-mul-lay-bytes
+mul-lay-bytes c =
+    let a = c .before .before .before .before .before .before .before .args in
+    let q = c .before .before .before .before .before .before .before .pre in
+    let h = target-inside (a .g) (a .slot) (a .word) (allows Running) _ (q .formed) (sym (ap targetOf (c .before .before .target .given .1)) ∙ c .before .before .before .before .copied-to .ensures) in
+    let m = q .memory in
+    let x = q .cache in
     omega arith
 
--- src/copies.rt:102:9
+-- src/copies.rt:75:34
+sub-lay-bytes : tie.Need-sub-lay-bytes
+sub-lay-bytes c = search needs
+
+-- src/copies.rt:75:34
+part-lay-bytes-start : tie.Need-part-lay-bytes-start
+part-lay-bytes-start c = search needs
+
+-- src/copies.rt:75:34
+part-lay-bytes-end : tie.Need-part-lay-bytes-end
+part-lay-bytes-end c = search needs
+
+-- src/copies.rt:75:5
+lay-bytes-requires : tie.Need-lay-bytes-requires
+lay-bytes-requires c κs =
+    let a = c .before .before .before .before .before .before .before .before .args in
+    let q = c .before .before .before .before .before .before .before .before .pre in
+    let h = target-inside (a .g) (a .slot) (a .word) (allows Running) _ (q .formed) (sym (ap targetOf (c .before .before .before .target .given .1)) ∙ c .before .before .before .before .before .copied-to .ensures) in
+    let m = q .memory in
+    let x = q .cache in
+    omega arith
+
+-- src/copies.rt:59:1
 same-length : tie.Need-same-length
 same-length c = search needs
 
--- src/copies.rt:102:9
-returns : tie.Need-returns
-returns c =
-    let a = c .before .before .before .before .before .before .before .before .args in
-    copied (now (a .cache)) (a .slot) (a .word / 256) _ (to-home (a .g) (a .slot) (a .word) (c .before .before .before .before .before .if1 .taken)) (omega (arith, c .before .before .before .home-start .ensures)) (c .before .before .copy-block .ensures)
-
--- src/copies.rt:105:35
-checkpoint-start-requires : tie.Need-checkpoint-start-requires
-checkpoint-start-requires c κs = search needs
-
--- src/copies.rt:105:9
-copy-block-requires-2 : tie.Need-copy-block-requires-2
-copy-block-requires-2 c κs = search needs
-
--- src/copies.rt:105:9
-same-length-2 : tie.Need-same-length-2
-same-length-2 c = search needs
-
--- src/copies.rt:105:9
+-- src/copies.rt:59:1
 returns-2 : tie.Need-returns-2
 returns-2 c =
-    let a = c .before .before .before .before .before .before .before .before .before .args in
-    copied (now (a .cache)) (a .slot) (a .g .blocks + a .slot) _ (to-checkpoint (a .g) (a .slot) (a .word) (c .before .before .before .before .before .if2 .taken)) (omega (arith, c .before .before .before .checkpoint-start .ensures)) (c .before .before .copy-block2 .ensures)
-
--- src/copies.rt:88:1
-returns-3 : tie.Need-returns-3
-returns-3 c = let a = c .before .before .before .before .args in not-copied (now (a .cache)) (a .slot) (a .p) (now (a .memory)) (to-nowhere (a .g) (a .slot) (a .word) (c .before .if1 .left) (c .if2 .left))
+    let a = c .before .before .before .before .before .before .before .before .before .before .before .args in
+    copied (now (a .cache)) (a .slot) _ _ (sym (c .before .before .before .before .before .before .before .before .copied-to .ensures) ∙ ap targetOf (c .before .before .before .before .before .before .target .given .1)) refl (rw (tail-block (now (a .cache)) (a .slot) _) at (c .before .before .lay-bytes .ensures))
 
 pub copy-slot-spec : {M : Type 1} → statement M
 copy-slot-spec =
     tie.close
     (tie.spec
-    home-start-requires
-    copy-block-requires
-    same-length
+    copied-to-requires
+    enum-known-target
+    enum-told
     returns
-    checkpoint-start-requires
-    copy-block-requires-2
-    same-length-2
-    returns-2
-    returns-3)
+    mul-from
+    mul-lay-bytes
+    sub-lay-bytes
+    part-lay-bytes-start
+    part-lay-bytes-end
+    lay-bytes-requires
+    same-length
+    returns-2)

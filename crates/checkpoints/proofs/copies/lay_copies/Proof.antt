@@ -46,7 +46,7 @@ copy-slot-requires c κs =
     let a = c .before .before .before .before .before .before .before .before .args in
     let ready = c .before .before .before .before .before .before .before .before .pre .0 in
     let l = c .before .before .before .before .loop in
-    (slot-formed (wellFormed (allows Running) (a .g)) (now (a .table)) (l .slot) (c .before .before .before .before .before .before .before .before .pre .1) (c .before .before .before .loop-test .taken), omega arith, omega arith)
+    record { low = omega (arith, ready .slots, ready .table); formed = slot-formed (wellFormed (allows Running) (a .g)) (now (a .table)) (l .slot) (c .before .before .before .before .before .before .before .before .pre .1) (c .before .before .before .loop-test .taken); memory = omega (arith, ready .memory, ready .table); cache = omega (arith, ready .cache, ready .table) }
 
 -- src/copies.rt:119:9
 add-done : tie.Need-add-done Inv-loop μ-loop

@@ -1,6 +1,9 @@
 use denote.Ref.{now}
-use borrow.Author.Tests.{not-true}
-use Rattle.checks.proofs.Passed.{refusing, early-stops, table-stops, all-passed}
+use mathlib.Core.Path.{refl}
+use native.Mathlib.Omega.{arith}
+use borrow.Author.Tests.{not-true, not-false}
+use Rattle.rules.specs.Board.{boardOf}
+use Rattle.checks.proofs.Passed.{refusing, early-stops, early-passed, table-stops, all-passed, lengths, lent-now}
 use Rattle.checkpoints.proofs.Calls.{table-refuses}
 use borrow.Author.Needs.{needs}
 use Rattle.checkpoints.proofs.counts.count_begin.Statement.{statement}
@@ -16,19 +19,28 @@ accepted-requires c κs = search needs
 
 -- src/counts.rt:76:9
 returns : tie.Need-returns
-returns c = let a = c .before .before .before .before .before .before .args in (early-stops (now (a .memory)) (now (a .cache)) (now (a .table)) (a .controller) (a .unfit) _ _ (c .before .before .early-number .ensures) (c .before .accepted .ensures) (c .if1 .taken), λ z. absurd (refusing _ (c .before .accepted .ensures) (not-true _ (c .if1 .taken)) z))
+returns c =
+    let a = c .before .before .before .before .before .before .before .args in
+    (early-stops (boardOf (now (a .memory)) (now (a .cache)) (now (a .table)) (a .controller)) (a .unfit) _ _ (c .before .before .early-number .ensures _ (lengths (lent-now (now (a .memory)) (now (a .cache)) (now (a .table)) (a .controller))) refl refl) (c .before .accepted .ensures) (c .if1 .taken), λ z. absurd (refusing _ (c .before .accepted .ensures) (not-true _ (c .if1 .taken)) z))
 
 -- src/counts.rt:83:9
 walk-table-requires : tie.Need-walk-table-requires
-walk-table-requires c κs = search needs
+walk-table-requires c κs =
+    let a = c .before .before .before .before .before .before .before .args in
+    let r = early-passed (boardOf (now (a .memory)) (now (a .cache)) (now (a .table)) (a .controller)) (a .unfit) _ _ (c .before .before .early-number .ensures _ (lengths (lent-now (now (a .memory)) (now (a .cache)) (now (a .table)) (a .controller))) refl refl) (c .before .accepted .ensures) (c .if1 .left) in
+    (r .some-block, r .blocks, omega (arith, r .table, r .slots))
 
 -- src/counts.rt:85:9
 returns-2 : tie.Need-returns-2
-returns-2 c = let a = c .before .before .before .before .before .before .before .before .before .before .args in (table-stops (now (a .memory)) (now (a .cache)) (now (a .table)) (a .controller) (a .unfit) _ _ (c .before .before .before .before .before .before .early-number .ensures) (c .before .before .before .before .before .accepted .ensures) _ (c .before .before .walk-table .ensures .0) (c .before .before .before .before .if1 .left) (c .if2 .taken), λ z. absurd (table-refuses z))
+returns-2 c =
+    let a = c .before .before .before .before .before .before .before .before .before .before .args in
+    (table-stops (boardOf (now (a .memory)) (now (a .cache)) (now (a .table)) (a .controller)) (a .unfit) _ _ (c .before .before .before .before .before .early-number .ensures _ (lengths (lent-now (now (a .memory)) (now (a .cache)) (now (a .table)) (a .controller))) refl refl) (c .before .before .before .before .accepted .ensures) _ (c .before .before .walk-table .ensures .0) (c .before .before .before .if1 .left) (c .if2 .taken), λ z. absurd (table-refuses z))
 
 -- src/counts.rt:65:1
 returns-3 : tie.Need-returns-3
-returns-3 c = let a = c .before .before .before .before .before .before .before .before .before .before .args in (all-passed (now (a .memory)) (now (a .cache)) (now (a .table)) (a .controller) (a .unfit) _ _ (c .before .before .before .before .before .before .early-number .ensures) (c .before .before .before .before .before .accepted .ensures) _ (c .before .before .walk-table .ensures .0) (c .before .before .before .before .if1 .left) (c .if2 .left), λ z. c .before .before .walk-table .ensures .1 (a .controller .geometry) (now (a .cache)))
+returns-3 c =
+    let a = c .before .before .before .before .before .before .before .before .before .before .args in
+    (all-passed (boardOf (now (a .memory)) (now (a .cache)) (now (a .table)) (a .controller)) (a .unfit) _ _ (c .before .before .before .before .before .early-number .ensures _ (lengths (lent-now (now (a .memory)) (now (a .cache)) (now (a .table)) (a .controller))) refl refl) (c .before .before .before .before .accepted .ensures) _ (c .before .before .walk-table .ensures .0) (c .before .before .before .if1 .left) (c .if2 .left), λ z. c .before .before .walk-table .ensures .1 (not-false _ (c .if2 .left)) (a .controller .geometry) (now (a .cache)))
 
 pub count-begin-spec : {M : Type 1} → statement M
 count-begin-spec =

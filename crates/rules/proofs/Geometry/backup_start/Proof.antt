@@ -2,11 +2,6 @@ use native.Mathlib.Omega.{arith}
 use borrow.Author.Needs.{needs}
 use Rattle.rules.proofs.Geometry.backup_start.Statement.{statement}
 use Rattle.rules.proofs.Geometry.backup_start.Tie as tie
-use Rattle.rules.proofs.Geometry.backup_start.Reads as reads
-use Rattle.rules.proofs.Geometry.backup_start.Lts as lts
-use Rattle.rules.proofs.Geometry.backup_words.Reads as backup-words-reads
-use Rattle.rules.proofs.Geometry.checkpoint_start.Reads as checkpoint-start-reads
-use Rattle.rules.proofs.Geometry.checkpoint_words.Reads as checkpoint-words-reads
 
 -- src/lib.rt:53:21
 checkpoint-start-requires : tie.Need-checkpoint-start-requires

@@ -10,7 +10,9 @@ slice-aggregate-part-sound c = search needs
 
 -- src/backups.rt:93:5
 part-sound-requires : tie.Need-part-sound-requires
-part-sound-requires c κs = let p = c .before .before .pre in (p .0, refl, p .1, marks-none)
+part-sound-requires c κs =
+    let p = c .before .before .pre in
+    (p .0, refl, p .1, marks-none)
 
 -- src/backups.rt:88:1
 returns : tie.Need-returns

@@ -18,7 +18,9 @@ abbrev μ-loop : tie.MeasureT-loop
 
 -- src/backups.rt:101:5
 loop-holds : tie.Need-loop-holds Inv-loop μ-loop
-loop-holds c = let a = c .before .before .args in (omega arith, search needs, paste-zero (now (a .table)) 0 (numbers (now (a .part)) 8 (length (now (a .table)))))
+loop-holds c =
+    let a = c .before .before .args in
+    (omega arith, search needs, paste-zero (now (a .table)) 0 (numbers (now (a .part)) 8 (length (now (a .table)))))
 
 -- src/backups.rt:102:36
 add-number-at : tie.Need-add-number-at Inv-loop μ-loop
@@ -26,7 +28,11 @@ add-number-at c = search needs
 
 -- src/backups.rt:102:13
 number-at-requires : tie.Need-number-at-requires Inv-loop μ-loop
-number-at-requires c κs = let p = c .before .before .before .before .pre in let l = c .before .loop in let h = c .loop-test .taken in omega arith
+number-at-requires c κs =
+    let p = c .before .before .before .before .pre in
+    let l = c .before .loop in
+    let h = c .loop-test .taken in
+    omega arith
 
 -- src/backups.rt:103:9
 mul-table : tie.Need-mul-table Inv-loop μ-loop

@@ -41,7 +41,11 @@ add-number-at c = search needs
 
 -- src/backups.rt:80:13
 number-at-requires : tie.Need-number-at-requires Inv-loop μ-loop
-number-at-requires c κs = let p = c .before .before .before .before .before .pre in let l = c .before .loop in let h = c .loop-test .taken in omega arith
+number-at-requires c κs =
+    let p = c .before .before .before .before .before .pre in
+    let l = c .before .loop in
+    let h = c .loop-test .taken in
+    omega arith
 
 -- src/backups.rt:81:13
 take-word-requires : tie.Need-take-word-requires Inv-loop μ-loop

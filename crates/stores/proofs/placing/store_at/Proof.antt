@@ -1,116 +1,94 @@
-use native.Mathlib.Omega.{arith}
-use denote.Ref.{now}
+use Rattle.stores.proofs.Placed.{inside, placed, not-placed}
+use Rattle.stores.specs.Moves.{spotOf}
 use Rattle.rules.specs.Board.{boardOf}
-use Rattle.rules.specs.Geometry.{homeBlock, checkpointBlock}
-use Rattle.stores.proofs.Placed.{at-home, at-checkpoint, at-cache, placed, not-placed}
+use denote.Ref.{now}
+use native.Mathlib.Omega.{arith}
+use mathlib.Core.Path.{sym, ap, _∙_}
 use borrow.Author.Needs.{needs}
 use Rattle.stores.proofs.placing.store_at.Statement.{statement}
 use Rattle.stores.proofs.placing.store_at.Tie as tie
 
--- src/placing.rt:96:18
+-- src/placing.rt:107:18
 enum-known-next : tie.Need-enum-known-next
 enum-known-next c = search needs
 
--- src/placing.rt:97:24
+-- src/placing.rt:108:24
 enum-told : tie.Need-enum-told
 enum-told c = search needs
 
--- src/placing.rt:97:9
+-- src/placing.rt:108:9
 refused-requires : tie.Need-refused-requires
 refused-requires c κs = search needs
 
--- src/placing.rt:97:9
+-- src/placing.rt:108:9
 returns : tie.Need-returns
 returns c =
-    let a = c .before .before .before .before .before .before .args in
+    let a = c .before .before .before .before .before .before .before .args in
     not-placed (a .p) (now (a .memory)) (now (a .cache)) (now (a .table)) (a .controller) (a .block) (a .slot) (now (a .fresh)) (c .before .enum-told .given .1) (c .refused .ensures)
 
--- src/placing.rt:100:9
-home-start-requires : tie.Need-home-start-requires
-home-start-requires c κs = search needs
-
--- src/placing.rt:101:9
-checkpoint-start-requires : tie.Need-checkpoint-start-requires
-checkpoint-start-requires c κs = search needs
-
--- src/placing.rt:102:9
+-- src/placing.rt:111:9
 word-of-requires : tie.Need-word-of-requires
 word-of-requires c κs = search needs
 
--- src/placing.rt:104:37
-enum-told-2 : tie.Need-enum-told-2
-enum-told-2 c = search needs
+-- src/placing.rt:112:9
+spot-in-requires : tie.Need-spot-in-requires
+spot-in-requires c κs = search needs
 
--- src/placing.rt:104:24
+-- src/placing.rt:114:22
+enum-known-spot : tie.Need-enum-known-spot
+enum-known-spot c = search needs
+
+-- src/placing.rt:115:13
 store-memory-requires : tie.Need-store-memory-requires
-store-memory-requires c κs = search needs
+store-memory-requires c κs =
+    let a = c .before .before .before .before .before .before .before .before .before .before .before .before .before .before .before .args in
+    let q = c .before .before .before .before .before .before .before .before .before .before .before .before .before .before .before .pre in
+    let r = q .0 in
+    let h = inside (a .controller .geometry) (a .block) (a .slot) _ (sym (ap spotOf (c .before .before .before .spot .given .1)) ∙ c .before .before .before .before .before .spot-in .ensures) (q .1) (q .2) in
+    (omega (arith, r .memory, r .cache, h), q .3, omega (arith, r .table))
 
--- src/placing.rt:105:43
-enum-told-3 : tie.Need-enum-told-3
-enum-told-3 c = search needs
+-- src/placing.rt:117:21
+enum-known-spot-2 : tie.Need-enum-known-spot-2
+enum-known-spot-2 c = search needs
 
--- src/placing.rt:105:30
-store-memory-requires-2 : tie.Need-store-memory-requires-2
-store-memory-requires-2 c κs = search needs
-
--- src/placing.rt:106:37
-enum-told-4 : tie.Need-enum-told-4
-enum-told-4 c = search needs
-
--- src/placing.rt:106:25
+-- src/placing.rt:118:13
 store-cache-requires : tie.Need-store-cache-requires
-store-cache-requires c κs = search needs
+store-cache-requires c κs =
+    let a = c .before .before .before .before .before .before .before .before .before .before .before .before .before .before .before .args in
+    let q = c .before .before .before .before .before .before .before .before .before .before .before .before .before .before .before .pre in
+    let r = q .0 in
+    let h = inside (a .controller .geometry) (a .block) (a .slot) _ (sym (ap spotOf (c .before .before .before .spot2 .given .1)) ∙ c .before .before .before .before .before .spot-in .ensures) (q .1) (q .2) in
+    (omega (arith, r .memory, r .cache, h), q .3, omega (arith, r .table))
 
--- src/placing.rt:82:1
+-- src/placing.rt:93:1
 same-length : tie.Need-same-length
 same-length c = search needs
 
--- src/placing.rt:82:1
+-- src/placing.rt:93:1
 same-length-2 : tie.Need-same-length-2
 same-length-2 c = search needs
 
--- src/placing.rt:82:1
+-- src/placing.rt:93:1
 returns-2 : tie.Need-returns-2
 returns-2 c =
-    let a = c .before .before .before .before .before .before .before .before .before .before .before .before .before .before .before .before .before .before .before .args in
+    let a = c .before .before .before .before .before .before .before .before .before .before .before .before .before .before .before .before .before .before .before .before .args in
     let g = a .controller .geometry in
-    placed (a .p) (boardOf (now (a .memory)) (now (a .cache)) (now (a .table)) (a .controller)) (a .block) (a .slot) _ (now (a .fresh))
-    (c .before .before .before .before .before .before .before .before .before .before .before .before .before .before .next .given .1) (at-home g (a .block) (a .slot) (c .before .before .before .before .before .before .before .enum-told2 .given .1)) (c .before .before .before .before .before .before .before .before .before .word-of .ensures)
-    (c .before .before .before .before .store-memory .ensures (now (a .cache)) (homeBlock g (a .block)) (omega arith))
+    placed (a .p) (boardOf (now (a .memory)) (now (a .cache)) (now (a .table)) (a .controller)) (a .block) (a .slot) _ (now (a .fresh)) (c .before .before .before .before .before .before .before .before .before .before .before .before .before .before .next .given .1) (sym (c .before .before .before .before .before .before .before .before .before .before .spot-in .ensures) ∙ ap spotOf (c .before .before .before .before .before .before .before .before .spot .given .1)) (c .before .before .before .before .before .before .before .before .before .before .before .word-of .ensures) (c .before .before .before .before .store-memory .ensures (now (a .cache)))
 
--- src/placing.rt:82:1
+-- src/placing.rt:93:1
 same-length-3 : tie.Need-same-length-3
 same-length-3 c = search needs
 
--- src/placing.rt:82:1
+-- src/placing.rt:93:1
 same-length-4 : tie.Need-same-length-4
 same-length-4 c = search needs
 
--- src/placing.rt:82:1
+-- src/placing.rt:93:1
 returns-3 : tie.Need-returns-3
 returns-3 c =
-    let a = c .before .before .before .before .before .before .before .before .before .before .before .before .before .before .before .before .before .before .before .args in
+    let a = c .before .before .before .before .before .before .before .before .before .before .before .before .before .before .before .before .before .before .before .before .args in
     let g = a .controller .geometry in
-    placed (a .p) (boardOf (now (a .memory)) (now (a .cache)) (now (a .table)) (a .controller)) (a .block) (a .slot) _ (now (a .fresh))
-    (c .before .before .before .before .before .before .before .before .before .before .before .before .before .before .next .given .1) (at-checkpoint g (a .block) (a .slot) (c .before .before .before .before .before .before .before .enum-told3 .given .1)) (c .before .before .before .before .before .before .before .before .before .word-of .ensures)
-    (c .before .before .before .before .store-memory2 .ensures (now (a .cache)) (checkpointBlock g (a .slot)) (omega arith))
-
--- src/placing.rt:82:1
-same-length-5 : tie.Need-same-length-5
-same-length-5 c = search needs
-
--- src/placing.rt:82:1
-same-length-6 : tie.Need-same-length-6
-same-length-6 c = search needs
-
--- src/placing.rt:82:1
-returns-4 : tie.Need-returns-4
-returns-4 c =
-    let a = c .before .before .before .before .before .before .before .before .before .before .before .before .before .before .before .before .before .before .before .args in
-    let g = a .controller .geometry in
-    placed (a .p) (boardOf (now (a .memory)) (now (a .cache)) (now (a .table)) (a .controller)) (a .block) (a .slot) _ (now (a .fresh))
-    (c .before .before .before .before .before .before .before .before .before .before .before .before .before .before .next .given .1) (at-cache g (a .block) (a .slot) (c .before .before .before .before .before .before .before .enum-told4 .given .1)) (c .before .before .before .before .before .before .before .before .before .word-of .ensures)
-    (c .before .before .before .before .store-cache .ensures (a .p) (now (a .memory)))
+    placed (a .p) (boardOf (now (a .memory)) (now (a .cache)) (now (a .table)) (a .controller)) (a .block) (a .slot) _ (now (a .fresh)) (c .before .before .before .before .before .before .before .before .before .before .before .before .before .before .next .given .1) (sym (c .before .before .before .before .before .before .before .before .before .before .spot-in .ensures) ∙ ap spotOf (c .before .before .before .before .before .before .before .before .spot2 .given .1)) (c .before .before .before .before .before .before .before .before .before .before .before .word-of .ensures) (c .before .before .before .before .store-cache .ensures (a .p) (now (a .memory)))
 
 pub store-at-spec : {M : Type 1} → statement M
 store-at-spec =
@@ -120,21 +98,15 @@ store-at-spec =
     enum-told
     refused-requires
     returns
-    home-start-requires
-    checkpoint-start-requires
     word-of-requires
-    enum-told-2
+    spot-in-requires
+    enum-known-spot
     store-memory-requires
-    enum-told-3
-    store-memory-requires-2
-    enum-told-4
+    enum-known-spot-2
     store-cache-requires
     same-length
     same-length-2
     returns-2
     same-length-3
     same-length-4
-    returns-3
-    same-length-5
-    same-length-6
-    returns-4)
+    returns-3)

@@ -1,6 +1,6 @@
-use mathlib.Core.Path.{_≡_, ap, _∙_}
+use mathlib.Core.Path.{ap, _∙_}
 use mathlib.Core.List.{List}
-use Prim.Native.Nat.{ℕ, _+_, _*_}
+use Prim.Native.Nat.{ℕ}
 use lib.ListN.{set}
 use denote.Ref.{now}
 use Rattle.rules.specs.declared.Number.the-variants as No
@@ -11,8 +11,8 @@ use Rattle.stores.proofs.placing.store_memory.Statement.{statement}
 use Rattle.stores.proofs.placing.store_memory.Tie as tie
 
 -- src/placing.rt:56:9
-lay-in-part-requires : tie.Need-lay-in-part-requires
-lay-in-part-requires c κs = search needs
+lay-fresh-requires : tie.Need-lay-fresh-requires
+lay-fresh-requires c κs = search needs
 
 -- src/placing.rt:58:13
 switched-off-requires : tie.Need-switched-off-requires
@@ -29,10 +29,10 @@ same-length c = search needs
 -- src/placing.rt:59:9
 returns : tie.Need-returns
 returns c =
-    let a = c .before .before .before .before .before .before .before .before .before .args in
-    λ (cache : List ℕ) (q : ℕ) (e : a .start + 8 * a .index ≡ 8 * q).
-    memory-cut (a .p) (now (a .memory)) cache (now (a .table)) (a .controller) (now (a .fresh)) (set (now (a .table)) (a .slot) (a .word)) _ _ q e
-    (c .before .before .before .before .before .lay-in-part .ensures) (c .before .before .if1 .taken) (c .reply .ensures ∙ ap (answerOf No.Cut (a .p)) (c .before .switched-off .ensures))
+    let a = c .before .before .before .before .before .before .before .before .before .before .args in
+    λ (cache : List ℕ).
+    memory-cut (a .p) (now (a .memory)) cache (now (a .table)) (a .controller) (now (a .fresh)) (set (now (a .table)) (a .slot) (a .word)) _ (a .index)
+    (c .before .before .before .before .before .lay-fresh .ensures) (c .before .before .if1 .taken) (c .reply .ensures ∙ ap (answerOf No.Cut (a .p)) (c .before .switched-off .ensures))
 
 -- src/placing.rt:61:5
 mul-table : tie.Need-mul-table
@@ -57,16 +57,16 @@ same-length-3 c = search needs
 -- src/placing.rt:42:1
 returns-2 : tie.Need-returns-2
 returns-2 c =
-    let a = c .before .before .before .before .before .before .before .before .args in
-    λ (cache : List ℕ) (q : ℕ) (e : a .start + 8 * a .index ≡ 8 * q).
-    memory-whole (a .p) (now (a .memory)) cache (now (a .table)) (a .controller) (now (a .fresh)) (set (now (a .table)) (a .slot) (a .word)) _ _ q e
-    (c .before .before .before .before .lay-in-part .ensures) (c .before .if1 .left) (c .reply2 .ensures)
+    let a = c .before .before .before .before .before .before .before .before .before .args in
+    λ (cache : List ℕ).
+    memory-whole (a .p) (now (a .memory)) cache (now (a .table)) (a .controller) (now (a .fresh)) (set (now (a .table)) (a .slot) (a .word)) _ (a .index)
+    (c .before .before .before .before .lay-fresh .ensures) (c .before .if1 .left) (c .reply2 .ensures)
 
 pub store-memory-spec : {M : Type 1} → statement M
 store-memory-spec =
     tie.close
     (tie.spec
-    lay-in-part-requires
+    lay-fresh-requires
     switched-off-requires
     reply-requires
     same-length

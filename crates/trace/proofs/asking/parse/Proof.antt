@@ -70,7 +70,10 @@ returns-7 c = rw (c .before .match .keys7) (c .recover-asked .ensures)
 -- src/asking.rt:118:1
 returns-8 : tie.Need-returns-8
 unfolding asked
-returns-8 c = let n = c .match .rest in let t = c .before .before .args .tag in simp (ne-eqb t 7 (n .1), ne-eqb t 6 (n .0 .1), ne-eqb t 5 (n .0 .0 .1), ne-eqb t 4 (n .0 .0 .0 .1), ne-eqb t 3 (n .0 .0 .0 .0 .1), ne-eqb t 2 (n .0 .0 .0 .0 .0 .1), ne-eqb t 1 (n .0 .0 .0 .0 .0 .0 .1))
+returns-8 c =
+    let n = c .match .rest in
+    let t = c .before .before .args .tag in
+    simp (ne-eqb t 7 (n .1), ne-eqb t 6 (n .0 .1), ne-eqb t 5 (n .0 .0 .1), ne-eqb t 4 (n .0 .0 .0 .1), ne-eqb t 3 (n .0 .0 .0 .0 .1), ne-eqb t 2 (n .0 .0 .0 .0 .0 .1), ne-eqb t 1 (n .0 .0 .0 .0 .0 .0 .1))
 
 pub parse-spec : {M : Type 1} → statement M
 parse-spec =

@@ -25,7 +25,9 @@ short-requires c κs = search needs
 -- src/asking.rt:31:1
 returns : tie.Need-returns
 unfolding numberAt
-returns c = let a = c .before .before .before .before .args in rw (two-at (now (a .value)) (a .start) (omega arith)) (c .short .ensures)
+returns c =
+    let a = c .before .before .before .before .args in
+    rw (two-at (now (a .value)) (a .start) (omega arith)) (c .short .ensures)
 
 pub short-at-spec : {M : Type 1} → statement M
 short-at-spec =

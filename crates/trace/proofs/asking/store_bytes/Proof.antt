@@ -39,7 +39,9 @@ part-result-end-2 c = search needs
 
 -- src/asking.rt:39:1
 returns-2 : tie.Need-returns-2
-returns-2 c = let v = now (c .before .before .args .value) in take-all (length v - 3) (drop 3 v) (simp length-drop (omega arith))
+returns-2 c =
+    let v = now (c .before .before .args .value) in
+    take-all (length v - 3) (drop 3 v) (simp length-drop (omega arith))
 
 pub store-bytes-spec : {M : Type 1} → statement M
 store-bytes-spec =
