@@ -1,8 +1,9 @@
 // Images of a board: its blocks as loads give them, taken, copied and compared.
 use checks::numbers::accepted;
+use lending::load_lent;
 use rules::Controller;
-use trace::lending::load_lent;
 use words::least;
+use words::same_bytes;
 
 // Where one is longer, the shorter decides.
 pub fn copy_bytes(from: &[u8], into: &mut [u8]) {
@@ -21,20 +22,6 @@ pub fn copy_table(from: &[u64], into: &mut [u64]) {
         into[slot] = from[slot];
         slot += 1;
     }
-}
-
-pub fn same_bytes(found: &[u8], wanted: &[u8]) -> bool {
-    if found.len() != wanted.len() {
-        return false;
-    }
-    let mut i = 0;
-    while i < found.len() {
-        if found[i] != wanted[i] {
-            return false;
-        }
-        i += 1;
-    }
-    true
 }
 
 // Whether the load was accepted.
@@ -110,7 +97,7 @@ fn same_block(
     if image.len() < end {
         return false;
     }
-    same_bytes(&bytes, &image[start..end])
+    same_bytes(&bytes, &image[start..end], 64)
 }
 
 fn same_blocks(
@@ -132,6 +119,10 @@ fn same_blocks(
     true
 }
 
+fn same_registers(found: &[u8; 64], wanted: &[u8; 64]) -> bool {
+    same_bytes(found, wanted, 64)
+}
+
 // Whether the board reads as the image and its registers.
 pub fn reads_as(
     memory: &[u8; 5512],
@@ -142,7 +133,7 @@ pub fn reads_as(
     registers: [u8; 64],
 ) -> bool {
     let found = controller.registers;
-    if !same_bytes(&found, &registers) {
+    if !same_registers(&found, &registers) {
         return false;
     }
     same_blocks(memory, cache, table, controller, image)

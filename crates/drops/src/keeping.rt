@@ -3,12 +3,12 @@ use crate::images::copy_bytes;
 use crate::images::take_image;
 use crate::stops::Plan;
 use crate::stops::Saved;
+use asking::Asked;
 use checks::numbers::accepted;
 use checks::numbers::is_running;
 use rules::Answer;
 use rules::Controller;
 use rules::Geometry;
-use trace::asking::Asked;
 
 // The checkpoint that an accepted field begins, what loads give at a begin and all fill at a format; returns its registers.
 pub fn drafted(

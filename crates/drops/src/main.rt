@@ -3,6 +3,8 @@ ghost use mathlib.Core.Bool.{true};
 ghost use mathlib.Core.Path.{_≡_};
 ghost use Prim.Native.Nat.{_≤_};
 ghost use lib.ListN.{length};
+use asking::Asked;
+use asking::parse;
 use fields::length_of;
 use keeping::drafted;
 use keeping::saved_after;
@@ -22,8 +24,6 @@ use stops::act;
 use stops::came_back;
 use stops::plan_of;
 use trace::Allowance;
-use trace::asking::Asked;
-use trace::asking::parse;
 use trace::turns::words_of;
 
 mod images;

@@ -1,7 +1,7 @@
 // What the program prints: a line for each field with its list and its stops in runs, and the summary.
 use crate::stops::Came;
+use asking::Asked;
 use libc::STDOUT_FILENO;
-use trace::asking::Asked;
 
 // Stops in a row with the same outcome; `wrong` counts all that deviate so far.
 pub struct Run {

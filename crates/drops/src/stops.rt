@@ -2,10 +2,17 @@
 use crate::images::copy_bytes;
 use crate::images::copy_table;
 use crate::images::reads_as;
+use asking::Asked;
+use asking::store_bytes;
 use checks::answers::refused;
 use checks::numbers::accepted;
 use checks::numbers::is_running;
 use checks::numbers::number_of;
+use lending::begin_lent;
+use lending::format_lent;
+use lending::recover_lent;
+use lending::step_lent;
+use lending::store_lent;
 use rules::Answer;
 use rules::Backup;
 use rules::Controller;
@@ -13,13 +20,6 @@ use rules::Geometry;
 use rules::Number;
 use rules::Phase;
 use trace::Allowance;
-use trace::asking::Asked;
-use trace::asking::store_bytes;
-use trace::lending::begin_lent;
-use trace::lending::format_lent;
-use trace::lending::recover_lent;
-use trace::lending::step_lent;
-use trace::lending::store_lent;
 
 // What comes back after a stop.
 pub enum Came {

@@ -8,10 +8,16 @@ ghost use Rattle.fields.specs.Fields.{bigEndian, bigNumber, field};
 use lines::put_byte;
 use lines::put_bytes;
 
+pub fn short_of(high: u8, low: u8) -> u16
+    ensures { λ r. ⌜ r ≡ bigNumber (high ∷ low ∷ []) ⌝ }
+{
+    256 * (high as u16) + (low as u16)
+}
+
 pub fn length_of(high: u8, low: u8) -> usize
     ensures { λ r. ⌜ r ≡ bigNumber (high ∷ low ∷ []) ⌝ }
 {
-    256 * (high as usize) + (low as usize)
+    short_of(high, low) as usize
 }
 
 // The two-byte number at a place of a field's value.

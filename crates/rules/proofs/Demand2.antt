@@ -133,7 +133,7 @@ module _ (board : Board) (volatile : Volatile) where
 
 -- ---- runs
 
-runs-stand : (events : List Event) (run : Run) → Stands (run .board) (run .promise) → Stands (runs events run .board) (runs events run .promise)
+pub runs-stand : (events : List Event) (run : Run) → Stands (run .board) (run .promise) → Stands (runs events run .board) (runs events run .promise)
 unfolding runs advance doing stopping
 runs-stand [] run s = s
 runs-stand (does p c ∷ events) run s = runs-stand events (doing p c run) (call-stands p (run .board) (run .promise) s c)

@@ -52,10 +52,10 @@ noted g plain c n ws a-step = refl
 noted g plain c n ws a-recover = refl
 
 -- the plain machine after a call
-abbrev next : Run → Plain → ℕ → Call → Plain
+abbrev pub next : Run → Plain → ℕ → Call → Plain
 next run plain p c = note (sizes (run .board)) plain c (numberOf (call p (run .board) c .number)) (stored p (plan (run .board) c))
 
-call-good : (g : Geometry) (p : ℕ) (c : Call) (run : Run) (plain : Plain) → NoFormat c → Good g run plain → Good g (doing p c run) (next run plain p c)
+pub call-good : (g : Geometry) (p : ℕ) (c : Call) (run : Run) (plain : Plain) → NoFormat c → Good g run plain → Good g (doing p c run) (next run plain p c)
 unfolding doing promised call
 call-good g p c run plain nf v =
     let k = call-keeps (run .board) plain (v .inv) c nf in
@@ -108,7 +108,7 @@ lent-still g run plain volatile v l = record {
   table = subst (λ (h : Geometry). length (volatile .table) ≡ h .slots) (sym (v .same)) (l .table);
 }
 
-stop-good : (g : Geometry) (volatile : Volatile) (run : Run) (plain : Plain) → Lengths g volatile → Good g run plain → Good g (stopping volatile run) (back plain)
+pub stop-good : (g : Geometry) (volatile : Volatile) (run : Run) (plain : Plain) → Lengths g volatile → Good g run plain → Good g (stopping volatile run) (back plain)
 unfolding stopping promised unlessRefused numberOf
 stop-good g volatile run plain l v =
     let l′ = lent-still g run plain volatile v l in
@@ -139,23 +139,23 @@ stop-good g volatile run plain l v =
 -- ---- runs
 
 -- some plain machine that the board looks like
-record Standing (g : Geometry) (run : Run) : Type 0 where
-  plain : Plain
-  good : Good g run plain
+pub record Standing (g : Geometry) (run : Run) : Type 0 where
+  pub plain : Plain
+  pub good : Good g run plain
 
 advance-good : (g : Geometry) (e : Event) (run : Run) → Allowed g e → Standing g run → Standing g (advance e run)
 unfolding advance
 advance-good g (does p c) run (a-call nf) s = record { plain = next run (s .plain) p c; good = call-good g p c run (s .plain) nf (s .good) }
 advance-good g (stop volatile) run (a-stop l) s = record { plain = back (s .plain); good = stop-good g volatile run (s .plain) l (s .good) }
 
-runs-good : (g : Geometry) (events : List Event) (run : Run) → AllAllowed g events → Standing g run → Standing g (runs events run)
+pub runs-good : (g : Geometry) (events : List Event) (run : Run) → AllAllowed g events → Standing g run → Standing g (runs events run)
 unfolding runs
 runs-good g [] run a s = s
 runs-good g (e ∷ events) run (and-then a az) s = runs-good g events (advance e run) az (advance-good g e run a s)
 
 -- ---- recovery from a board that looks like a plain machine
 
-good-recovers : (g : Geometry) (run : Run) (plain : Plain) → Good g run plain → RecoversTo g (plain .kept) (run .board .memory)
+pub good-recovers : (g : Geometry) (run : Run) (plain : Plain) → Good g run plain → RecoversTo g (plain .kept) (run .board .memory)
 unfolding numberOf lay
 good-recovers g run plain v = subst (λ (h : Geometry). RecoversTo h (plain .kept) (run .board .memory)) (v .same) (record { whatever = recovers })
   where

@@ -2,7 +2,7 @@
 ghost use mathlib.Core.Path.{_≡_};
 ghost use Prim.Native.Nat.{_≤_};
 ghost use lib.ListN.{length};
-ghost use Rattle.trace.specs.Lending.{Arrays};
+ghost use Rattle.lending.specs.Lending.{Arrays};
 use fields::length_of;
 use libc::STDIN_FILENO;
 use libc::STDOUT_FILENO;

@@ -5,8 +5,8 @@ use Prim.Native.Nat.{ℕ}
 use Rattle.fields.specs.Fields.{Field, bigNumber}
 use Rattle.lines.specs.Lines.{line, decimal, digits, hexBytes, hexByte, hexDigit}
 use Rattle.rules.specs.Calls.{call}
-use Rattle.trace.specs.Asking.{numberAt, sized, askedFormat, askedStore, askedLoad, askedBegin, askedStep, askedAllow, askedRecover, asked}
-use Rattle.trace.specs.Lending.{fits, lentMemory, lentCache, lentTable, restored, called}
+use Rattle.asking.specs.Asking.{numberAt, sized, askedFormat, askedStore, askedLoad, askedBegin, askedStep, askedAllow, askedRecover, asked}
+use Rattle.lending.specs.Lending.{fits, lentMemory, lentCache, lentTable, restored, called}
 use Rattle.trace.specs.Trace.{wordsOf, fresh, shown, ends, turnedBy, turned, printed}
 
 abbrev field : ℕ → List ℕ → Field

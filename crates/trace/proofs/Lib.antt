@@ -1,5 +1,3 @@
-pub mod Sizes
-pub mod Lent
 pub mod Lines
 pub mod Turned
 pub mod Unique

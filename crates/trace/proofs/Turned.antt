@@ -21,10 +21,10 @@ use Rattle.trace.specs.declared.Allowance.{Allowance}
 use Rattle.trace.specs.declared.Allowance.the-variants.{Words}
 use Rattle.trace.specs.declared.Held.{Held}
 use Rattle.trace.specs.declared.Turn.{Turn}
-use Rattle.trace.specs.declared.asking.Asked.{Asked}
-use Rattle.trace.specs.declared.asking.Asked.the-variants.{Allow}
-use Rattle.trace.specs.Asking.{asked}
-use Rattle.trace.specs.Lending.{called}
+use Rattle.asking.specs.declared.Asked.{Asked}
+use Rattle.asking.specs.declared.Asked.the-variants.{Allow}
+use Rattle.asking.specs.Asking.{asked}
+use Rattle.lending.specs.Lending.{called}
 use Rattle.trace.specs.Trace.{Bench, Turns, benchOf, ends, shown, turnedBy, turned}
 
 -- by what the field asks for

@@ -1,3 +1,1 @@
-pub mod Asking
-pub mod Lending
 pub mod Trace

@@ -19,10 +19,10 @@ use Rattle.trace.specs.declared.Allowance.{Allowance}
 use Rattle.trace.specs.declared.Allowance.the-variants.{Unlimited, Words}
 use Rattle.trace.specs.declared.Held.{Held}
 use Rattle.trace.specs.declared.Turn.{Turn}
-use Rattle.trace.specs.declared.asking.Asked.{Asked}
-use Rattle.trace.specs.declared.asking.Asked.the-variants.{Format, Store, Load, Begin, Step, Allow, Recover, Bad}
-use Rattle.trace.specs.Asking.{asked, storeBytes}
-use Rattle.trace.specs.Lending.{called}
+use Rattle.asking.specs.declared.Asked.{Asked}
+use Rattle.asking.specs.declared.Asked.the-variants.{Format, Store, Load, Begin, Step, Allow, Recover, Bad}
+use Rattle.asking.specs.Asking.{asked, storeBytes}
+use Rattle.lending.specs.Lending.{called}
 
 -- ---- the bench
 

@@ -2,7 +2,7 @@
 ghost use mathlib.Core.Path.{_≡_};
 ghost use Prim.Native.Nat.{_≤_};
 ghost use lib.ListN.{length};
-ghost use Rattle.trace.specs.Lending.{Arrays};
+ghost use Rattle.lending.specs.Lending.{Arrays};
 ghost use Rattle.trace.specs.Trace.{Turns, benchOf, turned, firstRecord};
 use asking::Asked;
 use asking::parse;
@@ -19,8 +19,6 @@ use turns::recover_turn;
 use turns::step_turn;
 use turns::store_turn;
 
-pub mod asking;
-pub mod lending;
 pub mod printing;
 pub mod turns;
 

@@ -5,6 +5,7 @@ use crate::print;
 use crate::text::byte_at;
 use crate::text::named;
 use crate::text::size_at;
+use crate::wiring;
 use board::Answer;
 use board::Controller;
 use checks::numbers::number_of;
@@ -58,6 +59,7 @@ fn begin(
 
 pub fn is_call(line: &[u8]) -> bool {
     named(line, b"store")
+        || named(line, b"wire")
         || named(line, b"begin")
         || named(line, b"step")
         || named(line, b"format")
@@ -74,6 +76,9 @@ pub fn answer_to(
 ) -> Answer {
     if named(line, b"store") {
         return store(memory, cache, table, controller, line, space);
+    }
+    if named(line, b"wire") {
+        return wiring::write(memory, cache, table, controller, line);
     }
     if named(line, b"begin") {
         return begin(memory, cache, table, controller, line, space);
@@ -137,6 +142,7 @@ fn registers(controller: Controller) {
 pub fn is_reading(line: &[u8]) -> bool {
     named(line, b"load")
         || named(line, b"peek")
+        || named(line, b"reading")
         || named(line, b"registers")
         || named(line, b"memory")
         || named(line, b"cache")
@@ -156,6 +162,9 @@ pub fn read<'a>(
     }
     if named(line, b"peek") {
         return peek(memory, cache, table, controller, line);
+    }
+    if named(line, b"reading") {
+        return wiring::read(memory, cache, table, controller, line);
     }
     if named(line, b"registers") {
         return registers(controller);

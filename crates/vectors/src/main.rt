@@ -10,6 +10,7 @@ mod bench;
 mod calls;
 mod print;
 mod text;
+mod wiring;
 
 // The number, the words stored, the record and the table.
 fn outcome(answer: Answer, table: &[u64]) {

@@ -7,3 +7,4 @@ pub mod Blocks
 pub mod Parts
 pub mod Laying
 pub mod Fills
+pub mod Same

@@ -1,7 +1,10 @@
-// Words laid in a part of a memory under an allowance, and bytes and numbers read from it.
+// Words laid in a part of a memory under an allowance, bytes and numbers read from it, and bytes compared.
 ghost use mathlib.Core.Path.{_≡_};
+ghost use mathlib.Core.Bool.{true, _&&_};
+ghost use mathlib.Core.Logic.{_↔_};
 ghost use mathlib.Core.List.{[], _∷_};
 ghost use Prim.Native.Nat.{ℕ, _+_, _*_, _-_, _≤_, _<_, min};
+ghost use lib.Dec.{eqb};
 ghost use lib.ListN.{length, take, drop};
 ghost use lib.Seq.{paste};
 ghost use Rattle.words.specs.Words.{Lays, bytesTo, fillTo, numbersTo, number, word, littleEndian};
@@ -130,4 +133,24 @@ pub fn copy_part(part: &[u8], start: usize, into: &mut [u8])
         into[j] = part[start + j];
         j += 1;
     }
+}
+
+fn still_same(before: bool, one: u8, other: u8) -> bool
+    ensures { λ r. ⌜ r ≡ (before && eqb one other) ⌝ }
+{
+    before && one == other
+}
+
+// Whether so many bytes are the same. It does not stop at a difference: so a compiler compares many bytes at once.
+pub fn same_bytes(found: &[u8], wanted: &[u8], count: usize) -> bool
+    requires { ⌜ (count ≤ length (now found)) × (count ≤ length (now wanted)) ⌝ }
+    ensures { λ r. ⌜ (r ≡ true) ↔ (take count (now (found .entry)) ≡ take count (now (wanted .entry))) ⌝ }
+{
+    let mut same = true;
+    let mut j = 0;
+    while j < count {
+        same = still_same(same, found[j], wanted[j]);
+        j += 1;
+    }
+    same
 }

@@ -1,6 +1,6 @@
 use denote.Ref.{now}
 use native.Mathlib.Omega.{arith}
-use Rattle.trace.proofs.Sizes.{first-length}
+use Rattle.lending.proofs.Sizes.{first-length}
 use borrow.Author.Needs.{needs}
 use Rattle.trace.proofs.turns.load_part.Statement.{statement}
 use Rattle.trace.proofs.turns.load_part.Tie as tie

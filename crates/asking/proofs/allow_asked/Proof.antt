@@ -1,0 +1,22 @@
+use Rattle.asking.specs.Asking.{askedAllow}
+use Rattle.asking.proofs.Sizes.{wrong-size, right-size}
+use borrow.Author.Needs.{needs}
+use Rattle.asking.proofs.allow_asked.Statement.{statement}
+use Rattle.asking.proofs.allow_asked.Tie as tie
+
+-- src/lib.rt:97:9
+returns : tie.Need-returns
+unfolding askedAllow
+returns c = wrong-size _ _ _ (c .if1 .taken)
+
+-- src/lib.rt:99:18
+short-at-requires : tie.Need-short-at-requires
+short-at-requires c κs = search needs
+
+-- src/lib.rt:93:1
+returns-2 : tie.Need-returns-2
+unfolding askedAllow
+returns-2 c = right-size _ _ (c .before .if1 .left) (rw (c .short-at .ensures))
+
+pub allow-asked-spec : {M : Type 1} → statement M
+allow-asked-spec = tie.close (tie.spec returns short-at-requires returns-2)

@@ -1,0 +1,4 @@
+pub mod Encoding
+pub mod Recognized
+pub mod Blocks
+pub mod Limits

@@ -1,0 +1,5 @@
+pub mod Records
+pub mod Classes
+pub mod Reading
+pub mod Supposed
+pub mod Promises

@@ -1,0 +1,5 @@
+pub mod Ends
+pub mod Unique
+pub mod Telling
+pub mod Demands
+pub mod AsBegun
