@@ -91,7 +91,7 @@ static struct answer make_call(const struct lent *lent, struct record *record, c
     case FORMAT:
         return board_format(lent, record, record->sizes, 0, p);
     case RECOVERY:
-        return board_recover(lent, record, record->sizes);
+        return board_recover(lent, record, record->sizes).answer;
     default:
         return (struct answer){NUMBER_DONE, 0};
     }

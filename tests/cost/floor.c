@@ -80,11 +80,11 @@ struct answer board_format(const struct lent *lent, struct record *record, struc
     return nothing();
 }
 
-struct answer board_recover(const struct lent *lent, struct record *record, struct sizes sizes)
+struct recovery board_recover(const struct lent *lent, struct record *record, struct sizes sizes)
 {
     const uint8_t *backup = lent->memory + WORD * backup_start(sizes, BACKUP_B);
     memcpy(record->registers, backup, BLOCK);
     memcpy(lent->table, backup + BLOCK, WORD * sizes.slots);
     scan(lent->table, sizes.slots);
-    return nothing();
+    return (struct recovery){nothing(), true};
 }

@@ -357,7 +357,7 @@ struct answer board_format(const struct lent *lent, struct record *record, struc
     uint8_t *a = lent->memory + WORD * backup_start(sizes, BACKUP_A);
     size_t left = p;
     bool whole = lay_number(mark, 0, &left) && lay_fill(lent->memory, fill, BLOCK_WORDS * sizes.blocks, &left)
-                 && lay_fill(a, 0, backup_words(sizes), &left) && lay_number(mark, BACKUP_A, &left);
+                 && lay_fill(a, 0, backup_words(sizes), &left) && lay_number(mark, MARK_NO_REGISTERS, &left);
     record->sizes = sizes;
     if (!whole)
         return cut(record, p);
@@ -387,23 +387,32 @@ static inline bool sound(const uint8_t *table, struct sizes sizes)
     return true;
 }
 
-struct answer board_recover(const struct lent *lent, struct record *record, struct sizes sizes)
+static inline struct recovery no_recovery(enum number number)
+{
+    return (struct recovery){refused(number), false};
+}
+
+struct recovery board_recover(const struct lent *lent, struct record *record, struct sizes sizes)
 {
     enum number number = check_lent(lent, sizes);
     if (number != NUMBER_DONE)
-        return refused(number);
+        return no_recovery(number);
     uint64_t mark = word_at(lent->memory + WORD * mark_start(sizes));
-    if (mark != BACKUP_A && mark != BACKUP_B)
-        return refused(NUMBER_NO_CHECKPOINT);
-    enum backup backup = mark;
+    if (mark != BACKUP_A && mark != BACKUP_B && mark != MARK_NO_REGISTERS)
+        return no_recovery(NUMBER_NO_CHECKPOINT);
+    bool exist = mark != MARK_NO_REGISTERS;
+    enum backup backup = exist ? mark : BACKUP_A;
     const uint8_t *registers = lent->memory + WORD * backup_start(sizes, backup);
     const uint8_t *table = registers + WORD * REGISTER_WORDS;
     if (!sound(table, sizes))
-        return refused(NUMBER_BACKUP);
+        return no_recovery(NUMBER_BACKUP);
     memcpy(lent->table, table, WORD * sizes.slots);
-    memcpy(record->registers, registers, BLOCK);
+    if (exist)
+        memcpy(record->registers, registers, BLOCK);
+    else
+        memset(record->registers, 0, BLOCK);
     record->sizes = sizes;
     record->finished = backup;
     record->phase = PHASE_RUNNING;
-    return done(0);
+    return (struct recovery){done(0), exist};
 }

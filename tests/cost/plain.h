@@ -37,6 +37,9 @@ enum phase { PHASE_RUNNING, PHASE_WRITING, PHASE_OFF };
 // The mark that calls the backup finished.
 enum backup { BACKUP_A = 1, BACKUP_B = 2 };
 
+// The mark of a format: A is finished and has no registers.
+enum { MARK_NO_REGISTERS = 3 };
+
 struct sizes {
     size_t blocks;
     size_t slots;
@@ -64,6 +67,12 @@ struct lent {
 struct answer {
     enum number number;
     size_t words;
+};
+
+// The answer of a recovery, and whether there are registers.
+struct recovery {
+    struct answer answer;
+    bool registers;
 };
 
 // The parts of the nonvolatile memory, in words; HOME starts at 0.
@@ -107,6 +116,6 @@ struct answer board_store(const struct lent *lent, struct record *record, size_t
 struct answer board_begin(const struct lent *lent, struct record *record, const uint8_t *registers, size_t length, size_t p);
 struct answer board_step(const struct lent *lent, struct record *record, size_t n, size_t p);
 struct answer board_format(const struct lent *lent, struct record *record, struct sizes sizes, uint8_t fill, size_t p);
-struct answer board_recover(const struct lent *lent, struct record *record, struct sizes sizes);
+struct recovery board_recover(const struct lent *lent, struct record *record, struct sizes sizes);
 
 #endif

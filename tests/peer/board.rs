@@ -1,4 +1,4 @@
-// The board of document 01: its checks in their order, and its calls with their allowance.
+// The board of document 01, with the mark 3 of document 02, No. 2: its checks in their order, and its calls with their allowance.
 use crate::parts::{entry, moves, shows, Backup, Number, Phase, Place, Record, Sizes, State, BLOCK, WORD};
 use crate::wrong::Trap;
 
@@ -7,6 +7,9 @@ pub struct Answer {
     pub number: Number,
     pub words: usize,
 }
+
+/// The mark of a finished A that has no registers.
+const NO_REGISTERS: u64 = 3;
 
 /// A word to store: its place in the memory and its bytes.
 type Word = (usize, [u8; WORD]);
@@ -47,9 +50,12 @@ impl Board<'_> {
         self.supply(plan, allowance)
     }
 
-    pub fn recover(&mut self, sizes: Sizes) -> Answer {
+    /// The answer, and the registers where they exist.
+    pub fn recover(&mut self, sizes: Sizes) -> (Answer, Option<[u8; BLOCK]>) {
         let plan = self.plan_recover(sizes);
-        self.supply(plan, usize::MAX)
+        let answer = self.supply(plan, usize::MAX);
+        let exist = answer.number == Number::Done && self.has_registers(sizes);
+        (answer, exist.then_some(self.record.registers))
     }
 
     pub fn store(&mut self, block: usize, offset: usize, bytes: &[u8], allowance: usize) -> Answer {
@@ -107,7 +113,8 @@ impl Board<'_> {
         plan.list.push(number_word(sizes.mark(), 0));
         plan.list.extend(words_at(0, &vec![fill; BLOCK * sizes.blocks]));
         plan.list.extend((a..a + 8 + sizes.slots).map(|place| number_word(place, 0)));
-        plan.list.push(number_word(sizes.mark(), Backup::A.mark()));
+        let last = if self.falls(Trap::FormatMarksOne) { Backup::A.mark() } else { NO_REGISTERS };
+        plan.list.push(number_word(sizes.mark(), last));
         plan.table.fill(0);
         plan.record = Record { sizes, registers: [0; BLOCK], finished: Backup::A, phase: Phase::Running };
         Ok(plan)
@@ -116,7 +123,8 @@ impl Board<'_> {
     fn plan_recover(&self, sizes: Sizes) -> Result<Plan, Number> {
         self.check_lent(sizes, BLOCK)?;
         let finished = match self.number_at(sizes.mark()) {
-            1 => Backup::A,
+            NO_REGISTERS if self.falls(Trap::ThreeIsB) => Backup::B,
+            1 | NO_REGISTERS => Backup::A,
             2 => Backup::B,
             _ => return Err(Number::NoCheckpoint),
         };
@@ -129,9 +137,15 @@ impl Board<'_> {
                 return Err(Number::Backup);
             }
         }
-        let registers = self.block_at(start);
+        let registers = if self.has_registers(sizes) { self.block_at(start) } else { [0; BLOCK] };
+        let unmarked = self.number_at(sizes.mark()) == NO_REGISTERS && self.falls(Trap::ThreeThenA);
+        let finished = if unmarked { Backup::B } else { finished };
         let record = Record { sizes, registers, finished, phase: Phase::Running };
         Ok(Plan { table, record, ..self.unchanged() })
+    }
+
+    fn has_registers(&self, sizes: Sizes) -> bool {
+        self.number_at(sizes.mark()) != NO_REGISTERS || self.falls(Trap::RegistersAtThree)
     }
 
     fn plan_store(&self, block: usize, offset: usize, bytes: &[u8]) -> Result<Plan, Number> {

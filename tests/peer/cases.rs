@@ -1,4 +1,4 @@
-// The peer's own tests: document 01's example, its lettered cases, and the numbers that no trace can reach.
+// The peer's own tests: document 01's example, its lettered cases, the registers or none of document 02, and the numbers that no trace can reach.
 use crate::board::{Answer, Board};
 use crate::parts::{Backup, Number, Phase, Record, Sizes, BLOCK};
 use crate::{make, trace};
@@ -80,7 +80,9 @@ fn the_documents_example() {
     let (output, _) = output.split_once("```").unwrap();
     let input = bytes_of(input);
     assert_eq!(input.len(), 65);
-    assert_eq!(trace::run(&input, None), output);
+    // document 02, No. 2: "In the bench trace line 10 ends in `--`"
+    let (before, after) = output.split_once("\n10 0 0 00\n").unwrap();
+    assert_eq!(trace::run(&input, None), format!("{before}\n10 0 0 --\n{after}"));
     assert_eq!(bytes_of(EXAMPLE), input);
 }
 
@@ -181,7 +183,7 @@ fn lent_lengths() {
     let mut lent = Lent::formatted(2, 1);
     lent.table.push(0);
     assert_eq!(lent.store(2, 0, 1), refused(Number::Buffer));
-    assert_eq!(lent.board().recover(SIZES), refused(Number::Buffer));
+    assert_eq!(lent.board().recover(SIZES), (refused(Number::Buffer), None));
 }
 
 #[test]
@@ -191,15 +193,43 @@ fn marks_and_backups() {
     let cases = [
         (1, 0, 0, Number::Done), (1, 1, 257, Number::Done), (1, 1, 1, Number::Backup), (1, 513, 0, Number::Backup),
         (1, 0, 2, Number::Backup), (1, 256, 0, Number::Backup), (0, 0, 0, Number::NoCheckpoint),
-        (3, 1, 1, Number::NoCheckpoint), (257, 0, 0, Number::NoCheckpoint), (2, 1, 1, Number::Done),
+        (3, 1, 257, Number::Done), (3, 1, 1, Number::Backup), (4, 1, 1, Number::NoCheckpoint),
+        (257, 0, 0, Number::NoCheckpoint), (259, 0, 0, Number::NoCheckpoint), (2, 1, 1, Number::Done),
     ];
     for (mark, first, second, number) in cases {
         let mut lent = Lent::formatted(2, 2);
         for (word, value) in [(40, first), (41, second), (52, mark)] {
             lent.lay(word, value);
         }
-        assert_eq!(lent.board().recover(Sizes { blocks: 2, slots: 2 }).number, number);
+        assert_eq!(lent.board().recover(Sizes { blocks: 2, slots: 2 }).0.number, number);
     }
+}
+
+#[test]
+fn registers_or_none() {
+    // With N = 2 and B = 1: the registers of A from word 24 on, those of B from 33 on, the mark at 42.
+    let mut lent = Lent::formatted(2, 1);
+    for (mark, finished, registers) in [(3, Backup::A, None), (1, Backup::A, Some(7)), (2, Backup::B, Some(9))] {
+        lent.memory[8 * 24..8 * 32].fill(7);
+        lent.memory[8 * 33..8 * 41].fill(9);
+        lent.lay(41, 0);
+        lent.lay(42, mark);
+        let (answer, given) = lent.board().recover(SIZES);
+        assert_eq!((answer.number, given), (Number::Done, registers.map(|byte| [byte; BLOCK])));
+        assert_eq!((lent.record.finished, lent.record.registers), (finished, [registers.unwrap_or(0); BLOCK]));
+    }
+}
+
+#[test]
+fn the_checkpoint_after_a_format_goes_to_b() {
+    let mut lent = Lent::formatted(2, 1);
+    assert_eq!(lent.board().recover(SIZES).1, None);
+    lent.board().begin(&[5; BLOCK], UNLIMITED);
+    let before = lent.memory.clone();
+    lent.board().step(9, UNLIMITED);
+    assert_eq!((&lent.memory[..8 * 33], lent.memory[8 * 42]), (&before[..8 * 33], 3));
+    lent.board().step(1, UNLIMITED);
+    assert_eq!((lent.memory[8 * 42], lent.board().recover(SIZES).1), (2, Some([5; BLOCK])));
 }
 
 #[test]
@@ -216,7 +246,7 @@ fn a_cut_stores_the_front_of_the_list() {
 
 #[test]
 fn a_cut_format() {
-    for (p, mark) in [(0, 1), (1, 0), (26, 0)] {
+    for (p, mark) in [(0, 3), (1, 0), (26, 0)] {
         let mut lent = Lent::formatted(2, 1);
         assert_eq!(lent.board().format(SIZES, 9, p), Answer { number: Number::Cut, words: p });
         assert_eq!((lent.memory[8 * 42], lent.record.phase), (mark, Phase::Off));

@@ -20,7 +20,7 @@ const USAGE: &str = "usage: peer bench | batch | make SEED COUNT | compare SEED 
   make     writes COUNT frames
   compare  gives COUNT frames to one run of COMMAND, which works as batch does
   single   gives COUNT traces to a run of COMMAND each, which works as bench does
-  wrong    the six wrong peers must each be found out";
+  wrong    the ten wrong peers must each be found out";
 
 /// The frames of `peer wrong`.
 const WRONG_SEED: u64 = 1;

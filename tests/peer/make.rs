@@ -134,10 +134,10 @@ impl Maker {
         for word in &mut words {
             *word = self.random.pick(*word, &[0]);
         }
-        words[mark] = self.random.pick(1, &[2]);
+        words[mark] = self.random.pick(1, &[2, 3]);
         match self.random.below(10) {
             0..=3 => {}
-            4 | 5 => words[mark] = self.random.pick(0, &[3, 4, 256, 257, 258, 1 << 32 | 1, 1 << 63 | 2]),
+            4 | 5 => words[mark] = self.random.pick(0, &[4, 256, 257, 258, 259, 1 << 32 | 1, 1 << 32 | 3, 1 << 63 | 2]),
             _ => {
                 let (any, other) = (self.random.below(slots), self.random.below(slots));
                 let slot = self.random.pick(any, &[0, slots - 1]);

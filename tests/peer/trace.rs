@@ -1,4 +1,4 @@
-// The bench trace of document 01: house fields in, lines out.
+// The bench trace of document 01, with the `--` of document 02, No. 2: house fields in, lines out.
 use crate::board::{Answer, Board};
 use crate::parts::{Backup, Number, Phase, Record, Sizes, BLOCK};
 use crate::wrong::Trap;
@@ -19,20 +19,20 @@ pub struct Bench {
     trap: Option<Trap>,
 }
 
-/// A field's answer and the bytes that its line shows in hex.
+/// A field's answer and what its line shows after the numbers.
 pub struct Reply {
     pub answer: Answer,
-    shown: Vec<u8>,
+    shown: String,
 }
 
 impl Reply {
     fn plain(answer: Answer) -> Reply {
-        Reply { answer, shown: Vec::new() }
+        Reply { answer, shown: String::new() }
     }
 
-    fn showing(answer: Answer, bytes: &[u8]) -> Reply {
+    fn showing(answer: Answer, shown: String) -> Reply {
         let accepted = answer.number == Number::Done;
-        Reply { answer, shown: if accepted { bytes.to_vec() } else { Vec::new() } }
+        Reply { answer, shown: if accepted { shown } else { String::new() } }
     }
 
     fn line(&self, number: u64) -> String {
@@ -40,7 +40,7 @@ impl Reply {
         if self.shown.is_empty() {
             line
         } else {
-            line + " " + &hex(&self.shown)
+            line + " " + &self.shown
         }
     }
 }
@@ -76,7 +76,7 @@ impl Bench {
             (3, &[k1, k0, offset, length]) => {
                 let mut bytes = vec![0; usize::from(length)];
                 let answer = self.lend(sizes).load(pair(k1, k0), usize::from(offset), &mut bytes);
-                Reply::showing(answer, &bytes)
+                Reply::showing(answer, hex(&bytes))
             }
             (4, &[byte]) => {
                 let p = self.take_allowance();
@@ -91,8 +91,8 @@ impl Bench {
                 Reply::plain(Answer { number: Number::Done, words: 0 })
             }
             (7, &[]) => {
-                let answer = self.lend(sizes).recover(sizes);
-                Reply::showing(answer, &self.record.registers[..1])
+                let (answer, registers) = self.lend(sizes).recover(sizes);
+                Reply::showing(answer, registers.map_or("--".into(), |bytes| hex(&bytes[..1])))
             }
             _ => return None,
         })

@@ -1,4 +1,4 @@
-// The six traps of document 01, "Traps on this road": each makes a wrong peer, which the traces must find out.
+// The six traps of document 01, "Traps on this road", and four of document 02, No. 2: each makes a wrong peer, which the traces must find out.
 use crate::make;
 use crate::trace;
 
@@ -16,15 +16,27 @@ pub enum Trap {
     RestLeftZero,
     /// The mark is stored before the last table word.
     MarkEarly,
+    /// A format ends with mark 1, so that its zeros come back as registers.
+    FormatMarksOne,
+    /// Mark 3 is read as a finished B without registers.
+    ThreeIsB,
+    /// At mark 3 the register words of A are handed out.
+    RegistersAtThree,
+    /// The checkpoint after mark 3 goes to A, the finished backup.
+    ThreeThenA,
 }
 
-const TRAPS: [(Trap, &str); 6] = [
+const TRAPS: [(Trap, &str); 10] = [
     (Trap::HiddenRemoved, "hidden entry removed early"),
     (Trap::Exchanged, "two blocks exchanged while Writing"),
     (Trap::FreshToCheckpoint, "fresh block straight to CHECKPOINT"),
     (Trap::PreHiddenSavedFree, "pre-hidden entry saved as free"),
     (Trap::RestLeftZero, "rest of the block left zero"),
     (Trap::MarkEarly, "mark before the last table word"),
+    (Trap::FormatMarksOne, "format still ends with mark 1"),
+    (Trap::ThreeIsB, "mark 3 read as B"),
+    (Trap::RegistersAtThree, "registers handed out at mark 3"),
+    (Trap::ThreeThenA, "checkpoint after mark 3 goes to A"),
 ];
 
 /// Runs each wrong peer against the right one; a line for each, and whether all were found out.

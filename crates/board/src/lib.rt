@@ -10,6 +10,8 @@ pub use rules::Controller;
 pub use rules::Geometry;
 pub use rules::Number;
 pub use rules::Phase;
+pub use rules::Recovery;
+pub use rules::Registers;
 pub use starts::format;
 pub use starts::recover;
 pub use stores::store;

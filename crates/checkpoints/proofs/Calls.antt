@@ -28,7 +28,8 @@ use Rattle.checks.specs.Ready.{Ready}
 use Rattle.checks.specs.Answers.{offOf, answerOf, refusedOf}
 use Rattle.checks.proofs.Passed.{refusing, accepting, hit, miss, none-applies, stopped, common-goes-on, Passed, common-passed}
 use Rattle.checks.proofs.Settled.{guard-on, refused-is, cut-is, whole-is}
-use Rattle.checkpoints.specs.Records.{begunRecord, steppedRecord}
+use Rattle.copies.specs.Records.{begunRecord}
+use Rattle.checkpoints.specs.Records.{steppedRecord}
 use Rattle.checkpoints.proofs.Lists.{length-checkpoint, take-most}
 
 -- ---- the number of the common checks and one more
@@ -60,10 +61,6 @@ pub laid-whole : (p words : ℕ) (stores : List Store) (memory : List ℕ) {memo
     → memory′ ≡ lay stores memory → Lays p stores memory memory′ words
 laid-whole p words stores memory e h q =
     record { words = e; bytes = q ∙ ap (λ (z : List Store). lay z memory) (sym (take-all p stores (omega arith))) }
-
-pub table-refuses : numberOf No.Table ≢ 0
-unfolding numberOf
-table-refuses = suc-ne-zero 4
 
 pub busy-refuses : numberOf No.Busy ≢ 0
 unfolding numberOf

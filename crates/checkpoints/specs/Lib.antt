@@ -1,3 +1,2 @@
 pub mod Records
-pub mod Copies
 pub mod Backups

@@ -1,20 +1,10 @@
--- The controller record as begin and step leave it, written out.
+-- The controller record as a step leaves it, written out.
 use mathlib.Core.Bool.{cond}
-use mathlib.Core.List.{List}
 use Prim.Native.Nat.{ℕ, _+_}
 use lib.Dec.{eqb}
 use Rattle.rules.specs.declared.Phase.the-variants.{Running, Writing}
 use Rattle.rules.specs.declared.Controller.{Controller}
 use Rattle.rules.specs.Checkpoints.{other}
-
--- the registers are kept, the phase is Writing with count 0
-abbrev pub begunRecord : Controller → List ℕ → Controller
-begunRecord controller registers = record {
-  geometry = controller .geometry;
-  registers = registers;
-  finished = controller .finished;
-  phase = Writing 0;
-}
 
 -- the count of words stored; with the mark stored the phase is Running and the finished backup has changed
 abbrev pub steppedRecord : Controller → ℕ → Controller

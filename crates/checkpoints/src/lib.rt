@@ -5,10 +5,6 @@ ghost use Rattle.rules.specs.Power.{outcomeOf};
 ghost use Rattle.rules.specs.Calls as K;
 use crate::backups::lay_next;
 use crate::backups::stepped;
-use crate::copies::begin_slots;
-use crate::copies::begun;
-use crate::copies::lay_copies;
-use crate::counts::count_begin;
 use checks::answers::refused;
 use checks::answers::reply;
 use checks::answers::switched_off;
@@ -17,14 +13,16 @@ use checks::numbers::common_number;
 use checks::numbers::count_of;
 use checks::numbers::is_running;
 use checks::numbers::is_writing;
+use copies::begin_slots;
+use copies::begun;
+use copies::counts::count_begin;
+use copies::lay_copies;
 use rules::Answer;
 use rules::Controller;
 use rules::Number;
 use words::least;
 
 pub mod backups;
-pub mod copies;
-pub mod counts;
 
 // Copies CACHE back, changes the table and keeps the registers.
 pub fn begin(

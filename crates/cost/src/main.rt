@@ -1,5 +1,6 @@
 // Repeats one call on a prepared board, so that the instructions of a call can be counted as a difference. tests/cost/measure says how.
 use board::Answer;
+use board::Recovery;
 use board::begin;
 use board::format;
 use board::load;
@@ -28,6 +29,11 @@ fn gave(answer: Answer) -> Given {
         number: number,
         words: answer.words,
     }
+}
+
+fn recovered(recovery: Recovery) -> Given {
+    let answer = recovery.answer;
+    gave(answer)
 }
 
 fn nothing(number: Number) -> Given {
@@ -73,7 +79,7 @@ fn call(
         4 => gave(step(memory, cache, table, controller, 1, p)),
         5 => checkpoint(memory, cache, table, controller, bytes, p),
         6 => gave(format(memory, cache, table, controller, g, 0, p)),
-        7 => gave(recover(memory, cache, table, controller, g)),
+        7 => recovered(recover(memory, cache, table, controller, g)),
         _ => nothing(Number::Done),
     }
 }

@@ -1,7 +1,10 @@
 // Images of a board: its blocks as loads give them, taken, copied and compared.
+use crate::stops::Wanted;
 use checks::numbers::accepted;
 use lending::load_lent;
 use rules::Controller;
+use rules::Recovery;
+use rules::Registers;
 use words::least;
 use words::same_bytes;
 
@@ -119,21 +122,40 @@ fn same_blocks(
     true
 }
 
-fn same_registers(found: &[u8; 64], wanted: &[u8; 64]) -> bool {
+fn exists(registers: Registers) -> bool {
+    match registers {
+        Registers::Saved => true,
+        Registers::Absent => false,
+    }
+}
+
+fn same_bytes_of(found: &[u8; 64], wanted: &[u8; 64]) -> bool {
     same_bytes(found, wanted, 64)
 }
 
-// Whether the board reads as the image and its registers.
+// The answer says whether there are registers, and the record has them, or zeros.
+fn same_registers(recovery: Recovery, wanted: Wanted) -> bool {
+    let answer = recovery.answer;
+    let controller = answer.controller;
+    let found = controller.registers;
+    let bytes = wanted.bytes;
+    let said = recovery.registers;
+    let exist = wanted.exist;
+    (exists(said) == exists(exist)) & same_bytes_of(&found, &bytes)
+}
+
+// Whether the recovered board reads as the image, and its registers or their absence as those wanted.
 pub fn reads_as(
     memory: &[u8; 5512],
     cache: &[u8; 1024],
     table: &[u64; 16],
-    controller: Controller,
+    recovery: Recovery,
     image: &[u8; 4096],
-    registers: [u8; 64],
+    wanted: Wanted,
 ) -> bool {
-    let found = controller.registers;
-    if !same_registers(&found, &registers) {
+    let answer = recovery.answer;
+    let controller = answer.controller;
+    if !same_registers(recovery, wanted) {
         return false;
     }
     same_blocks(memory, cache, table, controller, image)

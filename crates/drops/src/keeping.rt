@@ -3,12 +3,23 @@ use crate::images::copy_bytes;
 use crate::images::take_image;
 use crate::stops::Plan;
 use crate::stops::Saved;
+use crate::stops::Wanted;
 use asking::Asked;
 use checks::numbers::accepted;
 use checks::numbers::is_running;
 use rules::Answer;
 use rules::Controller;
 use rules::Geometry;
+use rules::Recovery;
+use rules::Registers;
+
+// What a format leaves.
+pub fn no_registers() -> Wanted {
+    Wanted {
+        exist: Registers::Absent,
+        bytes: [0u8; 64],
+    }
+}
 
 // The checkpoint that an accepted field begins, what loads give at a begin and all fill at a format; returns its registers.
 pub fn drafted(
@@ -18,8 +29,8 @@ pub fn drafted(
     draft: &mut [u8; 4096],
     controller: Controller,
     plan: Plan,
-    registers: [u8; 64],
-) -> [u8; 64] {
+    registers: Wanted,
+) -> Wanted {
     let asked = plan.asked;
     if !plan.accepted {
         return registers;
@@ -27,11 +38,14 @@ pub fn drafted(
     match asked {
         Asked::Format(_, fill) => {
             copy_bytes(&[fill; 4096], draft);
-            [0u8; 64]
+            no_registers()
         }
         Asked::Begin(byte) => {
             take_image(memory, cache, table, controller, draft);
-            [byte; 64]
+            Wanted {
+                exist: Registers::Saved,
+                bytes: [byte; 64],
+            }
         }
         _ => registers,
     }
@@ -50,7 +64,7 @@ fn formatted(
         copy_bytes(draft, kept);
         return Saved {
             sizes: g,
-            registers: [0u8; 64],
+            registers: no_registers(),
             there: true,
         };
     }
@@ -59,7 +73,7 @@ fn formatted(
     }
     Saved {
         sizes: g,
-        registers: [0u8; 64],
+        registers: no_registers(),
         there: false,
     }
 }
@@ -69,7 +83,7 @@ fn stepped(
     kept: &mut [u8; 4096],
     draft: &[u8; 4096],
     saved: Saved,
-    registers: [u8; 64],
+    registers: Wanted,
     answer: Answer,
 ) -> Saved {
     let number = answer.number;
@@ -102,13 +116,15 @@ fn reopened(
     table: &[u64; 16],
     kept: &mut [u8; 4096],
     saved: Saved,
-    answer: Answer,
+    recovery: Recovery,
 ) -> Saved {
+    let answer = recovery.answer;
     let number = answer.number;
     let controller = answer.controller;
     let g = controller.geometry;
     let sizes = saved.sizes;
-    let registers = controller.registers;
+    let bytes = controller.registers;
+    let exist = recovery.registers;
     if !accepted(number) {
         return saved;
     }
@@ -118,7 +134,10 @@ fn reopened(
     take_image(memory, cache, table, controller, kept);
     Saved {
         sizes: g,
-        registers: registers,
+        registers: Wanted {
+            exist: exist,
+            bytes: bytes,
+        },
         there: true,
     }
 }
@@ -131,14 +150,15 @@ pub fn saved_after(
     kept: &mut [u8; 4096],
     draft: &[u8; 4096],
     saved: Saved,
-    registers: [u8; 64],
+    registers: Wanted,
     asked: Asked,
-    answer: Answer,
+    done: Recovery,
 ) -> Saved {
+    let answer = done.answer;
     match asked {
         Asked::Format(g, _) => formatted(kept, draft, saved, g, answer),
         Asked::Step(_) => stepped(kept, draft, saved, registers, answer),
-        Asked::Recover => reopened(memory, cache, table, kept, saved, answer),
+        Asked::Recover => reopened(memory, cache, table, kept, saved, done),
         _ => saved,
     }
 }

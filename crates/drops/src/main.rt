@@ -7,6 +7,7 @@ use asking::Asked;
 use asking::parse;
 use fields::length_of;
 use keeping::drafted;
+use keeping::no_registers;
 use keeping::saved_after;
 use libc::STDIN_FILENO;
 use report::end_line;
@@ -20,6 +21,7 @@ use rules::Geometry;
 use stops::Panel;
 use stops::Plan;
 use stops::Saved;
+use stops::Wanted;
 use stops::act;
 use stops::came_back;
 use stops::plan_of;
@@ -129,7 +131,8 @@ fn carried(
     let saved = panel.saved;
     let registers = panel.draft;
     let p = words_of(allowance);
-    let answer = act(memory, cache, table, controller, asked, value, p);
+    let done = act(memory, cache, table, controller, asked, value, p);
+    let answer = done.answer;
     let after = answer.controller;
     Panel {
         controller: after,
@@ -143,7 +146,7 @@ fn carried(
             saved,
             registers,
             asked,
-            answer,
+            done,
         ),
         draft: registers,
         tried: panel.tried,
@@ -151,7 +154,7 @@ fn carried(
     }
 }
 
-fn counted(panel: Panel, registers: [u8; 64], stops: usize, wrong: u64) -> Panel {
+fn counted(panel: Panel, registers: Wanted, stops: usize, wrong: u64) -> Panel {
     let controller = panel.controller;
     let allowance = panel.allowance;
     let saved = panel.saved;
@@ -307,10 +310,10 @@ fn first_panel() -> Panel {
                 blocks: 0,
                 slots: 0,
             },
-            registers: [0u8; 64],
+            registers: no_registers(),
             there: false,
         },
-        draft: [0u8; 64],
+        draft: no_registers(),
         tried: 0,
         wrong: 0,
     }

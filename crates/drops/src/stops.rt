@@ -19,6 +19,8 @@ use rules::Controller;
 use rules::Geometry;
 use rules::Number;
 use rules::Phase;
+use rules::Recovery;
+use rules::Registers;
 use trace::Allowance;
 
 // What comes back after a stop.
@@ -31,10 +33,16 @@ pub enum Came {
     Wrong,
 }
 
+// The registers that a recovery has to give, or their absence; the record's bytes are 0 then.
+pub struct Wanted {
+    pub exist: Registers,
+    pub bytes: [u8; 64],
+}
+
 // The last finished checkpoint beside its blocks; `there` is false where no checkpoint is finished.
 pub struct Saved {
     pub sizes: Geometry,
-    pub registers: [u8; 64],
+    pub registers: Wanted,
     pub there: bool,
 }
 
@@ -43,7 +51,7 @@ pub struct Panel {
     pub controller: Controller,
     pub allowance: Allowance,
     pub saved: Saved,
-    pub draft: [u8; 64],
+    pub draft: Wanted,
     pub tried: u64,
     pub wrong: u64,
 }
@@ -56,6 +64,14 @@ pub struct Plan {
     pub running: bool,
 }
 
+// An answer of another call says nothing of registers.
+fn without(answer: Answer) -> Recovery {
+    Recovery {
+        answer: answer,
+        registers: Registers::Absent,
+    }
+}
+
 // The field's call with an allowance. A load or an allowance changes nothing on the board.
 pub fn act(
     memory: &mut [u8; 5512],
@@ -65,10 +81,12 @@ pub fn act(
     asked: Asked,
     value: &[u8],
     p: usize,
-) -> Answer {
+) -> Recovery {
     match asked {
-        Asked::Format(g, fill) => format_lent(memory, cache, table, controller, g, fill, p),
-        Asked::Store(block, offset) => store_lent(
+        Asked::Format(g, fill) => {
+            without(format_lent(memory, cache, table, controller, g, fill, p))
+        }
+        Asked::Store(block, offset) => without(store_lent(
             memory,
             cache,
             table,
@@ -77,13 +95,17 @@ pub fn act(
             offset as usize,
             store_bytes(value),
             p,
-        ),
-        Asked::Begin(byte) => begin_lent(memory, cache, table, controller, &[byte; 64], p),
-        Asked::Step(most) => step_lent(memory, cache, table, controller, most as usize, p),
+        )),
+        Asked::Begin(byte) => {
+            without(begin_lent(memory, cache, table, controller, &[byte; 64], p))
+        }
+        Asked::Step(most) => {
+            without(step_lent(memory, cache, table, controller, most as usize, p))
+        }
         Asked::Recover => recover_lent(memory, cache, table, controller),
-        Asked::Load(_, _, _) => refused(Number::Done, controller),
-        Asked::Allow(_) => refused(Number::Done, controller),
-        Asked::Bad => refused(Number::Done, controller),
+        Asked::Load(_, _, _) => without(refused(Number::Done, controller)),
+        Asked::Allow(_) => without(refused(Number::Done, controller)),
+        Asked::Bad => without(refused(Number::Done, controller)),
     }
 }
 
@@ -103,7 +125,8 @@ fn act_on_copy(
     copy_bytes(memory, copy);
     copy_bytes(cache, &mut cached);
     copy_table(table, &mut entries);
-    act(copy, &mut cached, &mut entries, controller, asked, value, p)
+    let done = act(copy, &mut cached, &mut entries, controller, asked, value, p);
+    done.answer
 }
 
 pub fn plan_of(
@@ -191,7 +214,7 @@ fn recover(
     cache: &[u8; 1024],
     table: &mut [u64; 16],
     controller: Controller,
-) -> Answer {
+) -> Recovery {
     recover_lent(memory, cache, table, controller)
 }
 
@@ -211,23 +234,23 @@ fn is_expected(
     memory: &[u8; 5512],
     cache: &[u8; 1024],
     table: &[u64; 16],
-    answer: Answer,
+    recovery: Recovery,
     expected: Came,
     kept: &[u8; 4096],
     draft: &[u8; 4096],
     panel: Panel,
 ) -> bool {
-    let controller = answer.controller;
+    let answer = recovery.answer;
     let number = answer.number;
     let saved = panel.saved;
     let registers = saved.registers;
     let on_its_way = panel.draft;
     let opened = accepted(number);
     match expected {
-        Came::Kept => opened & reads_as(memory, cache, table, controller, kept, registers),
-        Came::Old => opened & reads_as(memory, cache, table, controller, kept, registers),
-        Came::Draft => opened & reads_as(memory, cache, table, controller, draft, on_its_way),
-        Came::New => opened & reads_as(memory, cache, table, controller, draft, on_its_way),
+        Came::Kept => opened & reads_as(memory, cache, table, recovery, kept, registers),
+        Came::Old => opened & reads_as(memory, cache, table, recovery, kept, registers),
+        Came::Draft => opened & reads_as(memory, cache, table, recovery, draft, on_its_way),
+        Came::New => opened & reads_as(memory, cache, table, recovery, draft, on_its_way),
         Came::Nothing => refuses(answer),
         Came::Wrong => false,
     }
@@ -255,12 +278,12 @@ pub fn came_back(
     act_on_copy(memory, cache, table, controller, asked, value, p, &mut copy);
     let lost_cache = [165u8; 1024];
     let mut lost_table = [65025u64; 16];
-    let answer = recover(&copy, &lost_cache, &mut lost_table, lost_record(g));
+    let recovery = recover(&copy, &lost_cache, &mut lost_table, lost_record(g));
     if is_expected(
         &copy,
         &lost_cache,
         &lost_table,
-        answer,
+        recovery,
         expected,
         kept,
         draft,

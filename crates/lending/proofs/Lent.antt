@@ -9,10 +9,12 @@ use Rattle.rules.specs.declared.Geometry.{Geometry}
 use Rattle.rules.specs.declared.Controller.{Controller}
 use Rattle.rules.specs.declared.Number.{Number}
 use Rattle.rules.specs.declared.Answer.{Answer}
-use Rattle.rules.specs.Board.{Board, boardOf}
+use Rattle.rules.specs.declared.Recovery.{Recovery}
+use Rattle.rules.specs.Board.{Board, cacheOf, tableOf, boardOf}
 use Rattle.rules.specs.Numbers.{numberOf}
 use Rattle.rules.specs.Power.{Outcome, outcomeOf}
 use Rattle.rules.specs.Loads.{loadNumber, seen}
+use Rattle.rules.specs.Starts.{Recovered}
 use Rattle.rules.specs.Calls.{Call, load, call}
 use Rattle.loads.specs.Reading.{filled, Loaded, readOf}
 use Rattle.loads.proofs.Laws.{load-is}
@@ -31,6 +33,21 @@ module _ (p : ℕ) (memory cache table : List ℕ) (k : Controller) (g : Geometr
       → called p (boardOf memory cache table k) g x ≡ outcomeOf a memory″ cache″ table″
   unfolding restored
   lent-done e dm dc dt = lent-outcome e ∙ rw (dm, dc, dt, em, ec, et)
+
+  pub lent-recovered : {r : Recovery} {memory′ cache′ table′ memory″ cache″ table″ : List ℕ}
+      → Recovered (call p (boardOf (take m memory) (take c cache) (take t table) k) x) r memory′ cache′ table′
+      → memory″ ≡ memory′ ++ drop m memory → cache″ ≡ cache′ ++ drop c cache → table″ ≡ table′ ++ drop t table
+      → Recovered (called p (boardOf memory cache table k) g x) r memory″ cache″ table″
+  unfolding called restored
+  lent-recovered o dm dc dt =
+      let same = rw (em, ec, et) at o in
+      record {
+        number = same .number;
+        words = same .words;
+        registers = same .registers;
+        board = rw (dm, dc, dt, em, ec, et)
+            (ap (λ (z : Board). boardOf (z .memory ++ drop (lentMemory g) memory) (cacheOf z ++ drop (lentCache g) cache) (tableOf z ++ drop (lentTable g) table) (z .volatile .controller)) (same .board));
+      }
 
 -- a part that is lent unchangeable stays
 pub stays : (n : ℕ) (l : List ℕ) → l ≡ take (n - 0) l ++ drop (n - 0) l

@@ -4,6 +4,7 @@ ghost use Prim.Native.Nat.{_≤_};
 ghost use lib.ListN.{length};
 ghost use Rattle.rules.specs.Board.{boardOf};
 ghost use Rattle.rules.specs.Power.{outcomeOf};
+ghost use Rattle.rules.specs.Starts.{Recovered};
 ghost use Rattle.rules.specs.Calls as C;
 ghost use Rattle.loads.specs.Reading.{readOf};
 ghost use Rattle.lending.specs.Lending as L;
@@ -17,6 +18,7 @@ use rules::Answer;
 use rules::Controller;
 use rules::Geometry;
 use rules::Number;
+use rules::Recovery;
 
 // Whether the arrays hold a board of these sizes. Larger ones are lent nothing, so that the board itself refuses them.
 pub fn fits_in(g: Geometry) -> bool
@@ -190,9 +192,9 @@ pub fn recover_lent(
     cache: &[u8],
     table: &mut [u64],
     controller: Controller,
-) -> Answer
+) -> Recovery
     requires { ⌜ L.Arrays (now memory) (now cache) (now table) ⌝ }
-    ensures { λ r. ⌜ L.called 0 (boardOf (now (memory .entry)) (now (cache .entry)) (now (table .entry)) controller) (controller .geometry) (C.recover (controller .geometry)) ≡ outcomeOf r (now (memory .entry)) (now (cache .entry)) (now (table .exit)) ⌝ }
+    ensures { λ r. ⌜ Recovered (L.called 0 (boardOf (now (memory .entry)) (now (cache .entry)) (now (table .entry)) controller) (controller .geometry) (C.recover (controller .geometry))) r (now (memory .entry)) (now (cache .entry)) (now (table .exit)) ⌝ }
 {
     let g = controller.geometry;
     let held = lent_memory(g);

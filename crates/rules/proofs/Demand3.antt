@@ -11,10 +11,12 @@ use Rattle.rules.specs.Board.{Board, Volatile, sizes}
 use Rattle.rules.specs.Numbers.{numberOf}
 use Rattle.rules.specs.Power.{Plan, refuse, carry, Outcome, whole, stored}
 use Rattle.rules.specs.Loads.{shows}
+use Rattle.rules.specs.Starts.{handedOut, recorded}
 use Rattle.rules.specs.Calls.{Call, format, recover, plan, call}
 use Rattle.rules.specs.PlainMachine.{Plain, formatted, did, note}
-use Rattle.rules.specs.Runs.{stop, Event, does, Run, fromSome, promised, doing, unlessRefused, stopping, advance, runs, Lengths, NoFormat, a-load, a-peek, a-store, a-begin, a-step, a-recover, Allowed, a-call, a-stop, AllAllowed, and-then}
+use Rattle.rules.specs.Runs.{stop, Event, does, Run, fromSome, promised, doing, unlessRefused, stopping, advance, runs, Lengths, NoFormat, a-load, a-peek, a-store, a-begin, a-step, a-recover, Allowed, a-call, a-stop, AllAllowed, and-then, FromFormat, formattedRun, runFrom}
 use Rattle.rules.specs.Promises.{Recovers, RecoversTo, Safe, Demand3}
+use Rattle.rules.proofs.Saving.{given-back}
 use Rattle.rules.proofs.Checked.{Lent}
 use Rattle.rules.proofs.Invariant.{Inv, Keeps, no-mark, note-unmarked, settled, settled-sizes}
 use Rattle.rules.proofs.KeepsStore.{store-keeps}
@@ -77,7 +79,7 @@ lost board volatile = record { memory = board .memory; volatile = volatile }
 pub stop-recovers : (board : Board) (plain : Plain) (v : Inv board plain) (volatile : Volatile) → Lent (sizes board) (lost board volatile) → (p : ℕ)
     → call p (lost board volatile) (recover (sizes board))
     ≡ whole (lost board volatile) []
-    (recovered (sizes board) (board .memory) (volatile .cache) (board .volatile .controller .finished) (v .registers) (v .keeps) .volatile) []
+    (recovered (sizes board) (board .memory) (volatile .cache) (board .volatile .controller .finished) (v .registers) (v .keeps) .volatile) (handedOut (v .registers))
 stop-recovers board plain v volatile l p = recover-is (sizes board) p (lost board volatile) (v .fine) l (v .kept)
 
 -- the plain machine goes back to what is kept
@@ -128,7 +130,7 @@ stop-good g volatile run plain l v =
 
     o : Outcome
     o = whole (lost (run .board) volatile) []
-        (recovered h (run .board .memory) (volatile .cache) (run .board .volatile .controller .finished) (v .inv .registers) (v .inv .keeps) .volatile) []
+        (recovered h (run .board .memory) (volatile .cache) (run .board .volatile .controller .finished) (v .inv .registers) (v .inv .keeps) .volatile) (handedOut (v .inv .registers))
 
     promise-stands : (z : Option Plain) → z ≡ some plain
         → promised h z (recover h) o (stored 0 (plan (lost (run .board) volatile) (recover h))) ≡ some (back plain)
@@ -174,7 +176,8 @@ good-recovers g run plain v = subst (λ (h : Geometry). RecoversTo h (plain .kep
           blocks = λ block offset len lt early some-len fits q.
               let a = load-accepted after (back plain) i refl q block offset len lt early some-len fits in
               (a, inv-shows after (back plain) i .loads q block offset len a);
-          registers = v .inv .kept .given;
+          registers = given-back (v .inv .kept) (v .inv .lent .memory) ∙ v .inv .kept .given;
+          in-record = ap recorded (v .inv .kept .given);
         })
 
 own-lengths : (g : Geometry) (run : Run) (plain : Plain) → Good g run plain → Lengths g (run .board .volatile)
@@ -196,10 +199,16 @@ good-safe g run s = record {
       (subst (RecoversTo g (next run (s .plain) p c .kept)) (counted p (run .board) (plan (run .board) c) .memory) v);
 }
 
+-- right after the format, and after any allowed events, the board looks like the plain machine that is promised
+pub formatted-started : (g : Geometry) (from : FromFormat g) → Good g (formattedRun from) (formatted (from .fill))
+formatted-started g from =
+    let i = format-inv g (from .fill) (from .p) (from .before) (from .finished) in
+    record { stands = refl; inv = i .0; same = i .1 }
+
+pub formatted-good : (g : Geometry) (from : FromFormat g) → Standing g (runFrom from)
+formatted-good g from =
+    runs-good g (from .events) (formattedRun from) (from .allowed) (record { plain = formatted (from .fill); good = formatted-started g from })
+
 pub demand-3 : Demand3
 unfolding Demand3
-demand-3 g fill p before e events a =
-    let i = format-inv g fill p before e in
-    good-safe g (runs events (record { board = call p before (format g fill) .board; promise = some (formatted fill) }))
-    (runs-good g events (record { board = call p before (format g fill) .board; promise = some (formatted fill) }) a
-    (record { plain = formatted fill; good = record { stands = refl; inv = i .0; same = i .1 } }))
+demand-3 g from = good-safe g (runFrom from) (formatted-good g from)

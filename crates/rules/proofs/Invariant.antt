@@ -95,8 +95,8 @@ pub data Mode (board : Board) (plain : Plain) (keeps : List ℕ) : Phase → Typ
 pub record Inv (board : Board) (plain : Plain) : Type 0 where
   pub fine : outside (sizes board) ≡ false
   pub lent : Lent (sizes board) board
-  -- the registers and the table of the finished backup
-  pub registers : List ℕ
+  -- the registers, or their absence, and the table of the finished backup
+  pub registers : Option (List ℕ)
   pub keeps : List ℕ
   -- the mark names the record's finished backup, it passes recovery's checks and gives what is kept, in every phase, Off too
   pub kept : Kept (sizes board) (board .memory) (board .volatile .controller .finished) registers keeps (plain .kept)

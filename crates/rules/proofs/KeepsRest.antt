@@ -32,8 +32,7 @@ use Rattle.rules.specs.Numbers.{numberOf, _⇒_, firstOf, outside, allow
 use Rattle.rules.specs.Power.{Plan, carry, guard}
 use Rattle.rules.specs.Loads.{spotIn, shows, spotOf, blockIn, visible, loadNumber, loadPlan, peekNumber, peekPlan}
 use Rattle.rules.specs.Stores.{stores}
-use Rattle.rules.specs.Checkpoints.{markOf}
-use Rattle.rules.specs.Starts.{formatList, finishedBy, finishedIn, registersIn, tableIn, onlyClean, sound, noCheckpoint, unsound, recoverNumber, recoverFrom, recoverPlan, savedBy, savedBlock}
+use Rattle.rules.specs.Starts.{formatMark, formatList, finishedBy, hasRegisters, finishedIn, savedRegisters, handedOut, recorded, tableIn, onlyClean, sound, noCheckpoint, unsound, recoverNumber, recoverFrom, recoverPlan, savedBy, savedBlock}
 use Rattle.rules.specs.Calls.{Call, load, peek, recover}
 use Rattle.rules.specs.PlainMachine.{Picture, Plain, formatted, did}
 use Rattle.rules.proofs.Clashes.{false-true, none-some, and-left, and-right}
@@ -41,10 +40,10 @@ use Rattle.rules.proofs.TableWordLaws.{names-word, free-word}
 use Rattle.rules.proofs.Finding.{Finds, finds, found-at, found-lt}
 use Rattle.rules.proofs.Apart.{distinct-apart}
 use Rattle.rules.proofs.Changing.{every-all, all-get}
-use Rattle.rules.proofs.Saving.{Head, headFrom, headOf, Kept, kept-length}
+use Rattle.rules.proofs.Saving.{Head, headFrom, headOf, registers-by, Kept, kept-length}
 use Rattle.rules.proofs.Checked.{sizes-passed, Lent, lent-exact, same-sizes}
 use Rattle.rules.proofs.Invariant.{standing, formed-running, Live, is-running, Inv, Keeps, k-carry, no-mark, note-unmarked, guarded}
-use Rattle.rules.proofs.KeepsStep.{all-split, mark-names}
+use Rattle.rules.proofs.KeepsStep.{all-split}
 
 -- ---- a call that stores nothing and leaves the volatile side
 
@@ -115,16 +114,16 @@ module _ (g : Geometry) (memory cache table : List ℕ) (good : sound g table �
 
 -- ---- a recovery
 
-abbrev pub recovered : Geometry → List ℕ → List ℕ → Backup → List ℕ → List ℕ → Board
+abbrev pub recovered : Geometry → List ℕ → List ℕ → Backup → Option (List ℕ) → List ℕ → Board
 recovered g memory cache backup registers table = record {
   memory = memory;
-  volatile = record { cache = cache; table = table; controller = record { geometry = g; registers = registers; finished = backup; phase = Running } };
+  volatile = record { cache = cache; table = table; controller = record { geometry = g; registers = recorded registers; finished = backup; phase = Running } };
 }
 
 -- from a memory with a finished backup a recovery goes through, whatever the volatile memory holds
-module _ (g : Geometry) (board : Board) {x : Backup} {registers table : List ℕ} {picture : Picture} (k : Kept g (board .memory) x registers table picture) where
+module _ (g : Geometry) (board : Board) {x : Backup} {registers : Option (List ℕ)} {table : List ℕ} {picture : Picture} (k : Kept g (board .memory) x registers table picture) where
   abbrev goal : Plan
-  goal = carry [] (recovered g (board .memory) (cacheOf board) x registers table .volatile) []
+  goal = carry [] (recovered g (board .memory) (cacheOf board) x registers table .volatile) (handedOut registers)
 
   pub recover-from : recoverFrom board g (finishedIn g (board .memory)) ≡ goal
   unfolding recoverFrom headOf headFrom
@@ -134,7 +133,7 @@ module _ (g : Geometry) (board : Board) {x : Backup} {registers table : List ℕ
       go none e = absurd (none-some x (ap (λ (h : Head). h .finished) e))
       go (some y) e =
           let ey : y ≡ x = (let w : some y ≡ some x = ap (λ (h : Head). h .finished) e in cc) in
-          let er : registersIn g (board .memory) y ≡ registers = ap (λ (h : Head). h .registers) e in
+          let er : savedRegisters g (board .memory) y ≡ registers = ap (λ (h : Head). h .registers) e in
           let et : tableIn g (board .memory) y ≡ table = ap (λ (h : Head). h .table) e in
           cc
 
@@ -156,7 +155,7 @@ module _ (g : Geometry) (board : Board) {x : Backup} {registers table : List ℕ
   unfolding recoverPlan
   recover-carries f l = guard-done _ _ (recover-number f l) ∙ recover-from
 
-pub recovered-inv : (g : Geometry) (board : Board) {x : Backup} {registers table : List ℕ} (plain : Plain)
+pub recovered-inv : (g : Geometry) (board : Board) {x : Backup} {registers : Option (List ℕ)} {table : List ℕ} (plain : Plain)
     → outside g ≡ false → Lent g board → Kept g (board .memory) x registers table (plain .kept)
     → ((block : ℕ) → block < g .blocks → plain .live block ≡ plain .kept .blocks block)
     → Inv (recovered g (board .memory) (cacheOf board) x registers table) plain
@@ -196,7 +195,7 @@ module _ (g : Geometry) (fill : ℕ) (memory : List ℕ) (lm : length memory ≡
   first = numbersTo (markStart g) (0 ∷ [])
 
   rest : List Store
-  rest = fillTo (homeStart g) (homeWords g) fill ++ (fillTo (backupStart g A) (backupWords g) 0 ++ numbersTo (markStart g) (markOf A ∷ []))
+  rest = fillTo (homeStart g) (homeWords g) fill ++ (fillTo (backupStart g A) (backupWords g) 0 ++ numbersTo (markStart g) (formatMark ∷ []))
 
   home-run : Laid (homeStart g) (homeWords g) (length memory) (fillTo (homeStart g) (homeWords g) fill)
   home-run = fillTo-laid (homeWords g) (homeStart g) fill (length memory) (omega arith)
@@ -209,13 +208,13 @@ module _ (g : Geometry) (fill : ℕ) (memory : List ℕ) (lm : length memory ≡
 
   rest-fits : All (Fit (length memory)) rest
   unfolding rest
-  rest-fits = all-append (home-run .fits) (all-append (backup-run .fits) (mark-run 1 .fits))
+  rest-fits = all-append (home-run .fits) (all-append (backup-run .fits) (mark-run formatMark .fits))
 
   rest-rises : Rising (homeStart g) rest
   unfolding rest
   rest-rises =
       rising-append (omega arith) (home-run .rises) (in-below (omega arith) (home-run .inside))
-      (rising-append {i = backupStart g A} {j = markStart g} (omega arith) (backup-run .rises) (in-below (omega arith) (backup-run .inside)) (mark-run 1 .rises))
+      (rising-append {i = backupStart g A} {j = markStart g} (omega arith) (backup-run .rises) (in-below (omega arith) (backup-run .inside)) (mark-run formatMark .rises))
 
   marked-zero : List ℕ
   marked-zero = lay first memory
@@ -241,24 +240,20 @@ module _ (g : Geometry) (fill : ℕ) (memory : List ℕ) (lm : length memory ≡
   unfolding made
   made-length = ap length made-is ∙ lay-length rest marked-zero rest-fits′ ∙ same-length ∙ lm
 
-  -- every block is fill, the registers are 0, and A is finished
-  pub made-kept : Kept g (lay (formatList g fill) memory) A (replicate 64 0) (replicate (g .slots) 0) (formatted fill .kept)
-  unfolding made rest headOf headFrom finishedIn registersIn tableIn savedBlock savedBy blockAt formatted
+  -- every block is fill, and A is finished and has no registers
+  pub made-kept : Kept g (lay (formatList g fill) memory) A none (replicate (g .slots) 0) (formatted fill .kept)
+  unfolding made rest headOf headFrom finishedIn finishedBy hasRegisters tableIn savedBlock savedBy blockAt formatted
   made-kept =
       let one = all-split (fillTo (homeStart g) (homeWords g) fill) stands in
       let two = all-split (fillTo (backupStart g A) (backupWords g) 0) (one .1) in
       let home : words made (homeStart g) (homeWords g) ≡ replicate (8 * homeWords g) fill = held-fill made (homeWords g) (homeStart g) fill (one .0) in
       let backup : words made (backupStart g A) (backupWords g) ≡ replicate (8 * backupWords g) 0 = held-fill made (backupWords g) (backupStart g A) 0 (two .0) in
-      let registers : words made (backupStart g A) 8 ≡ replicate 64 0 =
-      subst (λ (z : ℕ). words made z 8 ≡ replicate 64 0) (let z : backupStart g A + 0 ≡ backupStart g A = omega arith in z)
-      (part-filled made (backupStart g A) (backupWords g) 0 backup 0 8 (omega arith))
-      in
       let table : numbers made (backupStart g A + 8) (g .slots) ≡ replicate (g .slots) 0 =
       numbers-filled made (g .slots) (backupStart g A + 8) (part-filled made (backupStart g A) (backupWords g) 0 backup 8 (g .slots) (omega arith))
       in
-      let mark : finishedBy (number (word made (markStart g))) ≡ some A = ap finishedBy (held-number made (markStart g) 1 (omega arith) (two .1)) ∙ mark-names A in
+      let mark : number (word made (markStart g)) ≡ formatMark = held-number made (markStart g) formatMark (omega arith) (two .1) in
       record {
-        reads = rw (mark, registers, table);
+        reads = rw (mark, registers-by g made A formatMark mark, table);
         good = free-sound g (g .slots);
         image = λ block h.
             rw (free-lookup block (g .slots))
@@ -275,11 +270,11 @@ module _ (g : Geometry) (fill : ℕ) (memory : List ℕ) (lm : length memory ≡
   unfolding fronts
   fronts-below = all-append (in-below (omega arith) (home-run .inside)) (in-below (omega arith) (backup-run .inside))
 
-  list-is : formatList g fill ≡ first ++ (fronts ++ numbersTo (markStart g) (markOf A ∷ []))
+  list-is : formatList g fill ≡ first ++ (fronts ++ numbersTo (markStart g) (formatMark ∷ []))
   unfolding formatList first fronts
   list-is =
       ap (λ (z : List Store). numbersTo (markStart g) (0 ∷ []) ++ z)
-      (sym (append-assoc (fillTo (homeStart g) (homeWords g) fill) (fillTo (backupStart g A) (backupWords g) 0) (numbersTo (markStart g) (markOf A ∷ []))))
+      (sym (append-assoc (fillTo (homeStart g) (homeWords g) fill) (fillTo (backupStart g A) (backupWords g) 0) (numbersTo (markStart g) (formatMark ∷ []))))
 
   one-first : length first ≡ 1
   unfolding first
@@ -288,9 +283,9 @@ module _ (g : Geometry) (fill : ℕ) (memory : List ℕ) (lm : length memory ≡
   pub cut-mark : (p : ℕ) → suc p < length (formatList g fill) → number (word (lay (take (suc p) (formatList g fill)) memory) (markStart g)) ≡ 0
   unfolding marked-zero first Misses fronts
   cut-mark p h =
-      let last : List Store = numbersTo (markStart g) (markOf A ∷ []) in
+      let last : List Store = numbersTo (markStart g) (formatMark ∷ []) in
       let n : length (formatList g fill) ≡ 1 + (length fronts + 1) =
-      ap length list-is ∙ length-append first (fronts ++ last) ∙ (rw (one-first, length-append fronts last, mark-run 1 .count))
+      ap length list-is ∙ length-append first (fronts ++ last) ∙ (rw (one-first, length-append fronts last, mark-run formatMark .count))
       in
       let t : take (suc p) (formatList g fill) ≡ first ++ take p fronts =
       ap (take (suc p)) list-is

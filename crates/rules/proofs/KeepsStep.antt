@@ -37,7 +37,7 @@ use Rattle.rules.specs.Numbers.{numberOf, _⇒_, isOff, whileWriting, we
 use Rattle.rules.specs.Power.{Plan, carry, switchedOff}
 use Rattle.rules.specs.Loads.{spotIn, shows, spotOf, blockIn, visible}
 use Rattle.rules.specs.Checkpoints.{begun, saved, other, markOf, checkpointList, countOf, stepNumber, nextWords, stepPlan}
-use Rattle.rules.specs.Starts.{finishedBy, finishedIn, registersIn, tableIn, onlyClean, sound, savedBlock}
+use Rattle.rules.specs.Starts.{finishedBy, hasRegisters, finishedIn, registersIn, tableIn, onlyClean, sound, savedBlock}
 use Rattle.rules.specs.Calls.{step}
 use Rattle.rules.specs.PlainMachine.{Plain, did, hasMark, keptOr, finish, note}
 use Rattle.rules.proofs.Clashes.{false-true, and-left, and-right, or-right}
@@ -45,7 +45,7 @@ use Rattle.rules.proofs.TableWordLaws.{says-word}
 use Rattle.rules.proofs.Finding.{Finds, finds, found-lt}
 use Rattle.rules.proofs.Apart.{Apart, apart-distinct}
 use Rattle.rules.proofs.Changing.{changed-apart, all-every, all-over}
-use Rattle.rules.proofs.Saving.{headFrom, headOf, Kept, saved-lt, Loose, in-other, blocks-low, mark-high, kept-stays}
+use Rattle.rules.proofs.Saving.{headFrom, headOf, registers-by, Kept, saved-lt, Loose, in-other, blocks-low, mark-high, kept-stays}
 use Rattle.rules.proofs.Checked.{passed, Common, common-passed, bounds}
 use Rattle.rules.proofs.Invariant.{standing, formed-running, Live, Drafted, Mode, is-running, is-writing, Inv, Keeps, k-carry, no-mark, guarded, stopped}
 
@@ -205,13 +205,18 @@ unfolding finishedBy
 mark-names A = refl
 mark-names B = refl
 
+mark-has-registers : (backup : Backup) → hasRegisters (markOf backup) ≡ true
+unfolding hasRegisters
+mark-has-registers A = refl
+mark-has-registers B = refl
+
 mark-small : (backup : Backup) → markOf backup < 256 ^ 8
 mark-small A = omega arith
 mark-small B = omega arith
 
 finished-head : (g : Geometry) (backup : Backup) (memory registers table : List ℕ) → length registers ≡ 64 → length table ≡ g .slots → All Small table
     → All (Held memory) (checkpointList g backup registers table)
-    → headOf g memory ≡ record { finished = some backup; registers = registers; table = table }
+    → headOf g memory ≡ record { finished = some backup; registers = some registers; table = table }
 unfolding headOf headFrom finishedIn registersIn tableIn checkpointList
 finished-head g backup memory registers table e8 es sm h =
     let one = all-split (bytesTo (backupStart g backup) 8 registers ++ numbersTo (backupStart g backup + 8) table) h in
@@ -220,10 +225,8 @@ finished-head g backup memory registers table e8 es sm h =
     let n : numbers memory (backupStart g backup + 8) (g .slots) ≡ table =
     subst (λ (z : ℕ). numbers memory (backupStart g backup + 8) z ≡ table) es (held-numbers memory table (backupStart g backup + 8) sm (two .1))
     in
-    let w : finishedBy (number (word memory (markStart g))) ≡ some backup =
-    ap finishedBy (held-number memory (markStart g) (markOf backup) (mark-small backup) (one .1)) ∙ mark-names backup
-    in
-    rw (w, r, n)
+    let w : number (word memory (markStart g)) ≡ markOf backup = held-number memory (markStart g) (markOf backup) (mark-small backup) (one .1) in
+    rw (w, mark-names backup, registers-by g memory backup (markOf backup) w, mark-has-registers backup, r, n)
 
 -- ---- the plan
 
@@ -334,9 +337,9 @@ module _ (board : Board) (plain : Plain) (v : Inv board plain) (count : ℕ)
   ends n e c = record {
     fine = v .fine;
     lent = record { memory = lent-after n; cache = v .lent .cache; table = v .lent .table };
-    registers = registers;
+    registers = some registers;
     keeps = saves;
-    kept = subst (Kept g (memory′ n) backup registers saves) (sym (ap (keptOr (plain .kept)) (dr .begun)))
+    kept = subst (Kept g (memory′ n) backup (some registers) saves) (sym (ap (keptOr (plain .kept)) (dr .begun)))
         (record {
           reads =
               finished-head g backup (memory′ n) registers saves (dr .eight) exact

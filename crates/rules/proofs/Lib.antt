@@ -16,6 +16,7 @@ pub mod Answers
 pub mod Started
 pub mod LiveShown
 pub mod Demand3
+pub mod NoneFinished
 pub mod Demand2
 pub mod Moves
 pub mod LetteredCases

@@ -193,7 +193,7 @@ recovery-leaves p board g e =
         → RecoveryLeaves board g (settle p board (recoverFrom board g o) .board)
     go none q h = absurd (suc-ne-zero 9 h)
     go (some backup) q h =
-        subst (λ (o : Outcome). RecoveryLeaves board g (o .board)) (sym (carry-nothing p board _ []))
+        subst (λ (o : Outcome). RecoveryLeaves board g (o .board)) (sym (carry-nothing p board _ _))
         (record { backup = backup; named = q; table = refl; registers = refl; memory = refl })
 
 pub states-move : StatesMove

@@ -13,7 +13,7 @@ use borrow.Author.Tests.{eqb-true, eq-eqb, leb-true, le-leb, ltb-true, lt-ltb}
 use Rattle.rules.specs.declared.Geometry.{Geometry}
 use Rattle.rules.specs.declared.Backup.{Backup}
 use Rattle.rules.specs.Geometry.{backupStart, backupWords, markStart}
-use Rattle.rules.specs.Starts.{finishedIn, registersIn, tableIn, savedBlock, within, savesBlock, protectedBy, isProtected}
+use Rattle.rules.specs.Starts.{finishedIn, savedRegisters, tableIn, savedBlock, within, savesBlock, protectedBy, isProtected}
 use Rattle.rules.proofs.Clashes.{false-true, and-left, and-right, or-true, or-left, or-right}
 use Rattle.rules.proofs.Protection.{Protected, reading, saving}
 use Rattle.rules.proofs.Saving.{Head, headFrom, headOf, Reads, the-mark, the-backup, scheme}
@@ -73,7 +73,7 @@ protected-exactly g memory backup place e = (λ h. there (ap (λ (o : Option Bac
     saves = savesBlock g table (g .blocks) place
 
     head : Head
-    head = record { finished = some backup; registers = registersIn g memory backup; table = table }
+    head = record { finished = some backup; registers = savedRegisters g memory backup; table = table }
 
     head-eq : headOf g memory ≡ head
     head-eq = ap (headFrom g memory) e

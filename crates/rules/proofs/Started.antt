@@ -5,18 +5,15 @@ use mathlib.Core.List.{List, [], _∷_}
 use mathlib.Core.Option.{Option, none, some}
 use Prim.Native.Nat.{ℕ, _-_}
 use native.Mathlib.Nat.{suc-ne-zero}
-use lib.ListN.{replicate}
 use borrow.Author.Tests.{not-false}
 use Rattle.words.specs.Words.{lay, number}
 use Rattle.rules.specs.declared.Geometry.{Geometry}
 use Rattle.rules.specs.declared.Backup.{Backup}
-use Rattle.rules.specs.declared.Backup.the-variants.{A}
-use Rattle.rules.specs.declared.Phase.the-variants.{Running}
 use Rattle.rules.specs.declared.Number.the-variants as No
-use Rattle.rules.specs.Board.{Board, Volatile, sizes, cacheOf}
+use Rattle.rules.specs.Board.{Board, sizes, cacheOf}
 use Rattle.rules.specs.Numbers.{numberOf, _⇒_, firstOf, outside}
 use Rattle.rules.specs.Power.{carry, Outcome, whole, settle}
-use Rattle.rules.specs.Starts.{formatList, formatNumber, formatPlan, finishedIn, registersIn, tableIn, sound, noCheckpoint, unsound, recoverNumber, recoverFrom, recoverPlan}
+use Rattle.rules.specs.Starts.{formatList, formatNumber, formatPlan, finishedIn, savedRegisters, handedOut, recorded, tableIn, sound, noCheckpoint, unsound, recoverNumber, recoverFrom, recoverPlan}
 use Rattle.rules.specs.Calls.{format, recover, plan, call}
 use Rattle.rules.specs.PlainMachine.{Picture, Plain, formatted, savedIn, openedFrom, opened}
 use Rattle.rules.proofs.Changing.{found}
@@ -27,33 +24,26 @@ use Rattle.rules.proofs.KeepsRest.{recovered, recover-carries, recovere
 use Rattle.rules.proofs.Answers.{guard-accepted, carry-accepted, carry-nothing}
 
 -- an accepted recovery with a finished backup: what it answers, and what it leaves
-pub recover-is : (g : Geometry) (p : ℕ) (board : Board) {x : Backup} {registers table : List ℕ} {picture : Picture}
+pub recover-is : (g : Geometry) (p : ℕ) (board : Board) {x : Backup} {registers : Option (List ℕ)} {table : List ℕ} {picture : Picture}
     → outside g ≡ false → Lent g board → Kept g (board .memory) x registers table picture
-    → call p board (recover g) ≡ whole board [] (recovered g (board .memory) (cacheOf board) x registers table .volatile) []
+    → call p board (recover g) ≡ whole board [] (recovered g (board .memory) (cacheOf board) x registers table .volatile) (handedOut registers)
 unfolding call plan
-recover-is g p board f l k = ap (settle p board) (recover-carries g board k f l) ∙ carry-nothing p board _ []
+recover-is g p board f l k = ap (settle p board) (recover-carries g board k f l) ∙ carry-nothing p board _ _
 
 -- an accepted format
 pub format-inv : (g : Geometry) (fill p : ℕ) (board : Board) → numberOf (call p board (format g fill) .number) ≡ 0
     → Inv (call p board (format g fill) .board) (formatted fill) × (sizes (call p board (format g fill) .board) ≡ g)
-unfolding call plan formatPlan formatNumber formatted
+unfolding call plan formatPlan formatNumber formatted recorded
 format-inv g fill p board e =
-    let a = guard-accepted p board (formatNumber board g) (carry (formatList g fill) after []) e in
+    let a = guard-accepted p board (formatNumber board g) (carry (formatList g fill) _ []) e in
     let q = sizes-passed board g [] (a .0) in
-    let o = a .1 ∙ carry-accepted p board (formatList g fill) after [] (ap (λ (z : Outcome). numberOf (z .number)) (sym (a .1)) ∙ e) in
+    let o = a .1 ∙ carry-accepted p board (formatList g fill) _ [] (ap (λ (z : Outcome). numberOf (z .number)) (sym (a .1)) ∙ e) in
     subst (λ (z : Outcome). Inv (z .board) (formatted fill) × (sizes (z .board) ≡ g)) (sym o) (
       recovered-inv g (record { memory = lay (formatList g fill) (board .memory); volatile = board .volatile }) (formatted fill) (q .0)
           (record { memory = made-length g fill (board .memory) (q .1 .memory); cache = q .1 .cache; table = q .1 .table }) (made-kept g fill (board .memory) (q .1 .memory))
           (λ block lt. refl),
       refl,
     )
-  where
-    after : Volatile
-    after = record {
-      cache = cacheOf board;
-      table = replicate (g .slots) 0;
-      controller = record { geometry = g; registers = replicate 64 0; finished = A; phase = Running };
-    }
 
 -- an accepted recovery of any memory at all: every block comes from where the finished backup saves it
 pub opened-inv : (g : Geometry) (p : ℕ) (board : Board) → numberOf (call p board (recover g) .number) ≡ 0
@@ -74,9 +64,9 @@ opened-inv g p board e plain o =
     from (some x) f fine lent h o =
         let table : List ℕ = tableIn g (board .memory) x in
         let good : sound g table ≡ true = not-false (sound g table) (passed (not (sound g table)) No.Backup [] (suc-ne-zero 10) h .0) in
-        let after : Board = recovered g (board .memory) (cacheOf board) x (registersIn g (board .memory) x) table in
+        let after : Board = recovered g (board .memory) (cacheOf board) x (savedRegisters g (board .memory) x) table in
         let found : Plain = record { live = savedIn g (board .memory) x .blocks; kept = savedIn g (board .memory) x; onItsWay = none } in
-        let is = carry-nothing p board (after .volatile) [] in
+        let is = carry-nothing p board (after .volatile) (handedOut (savedRegisters g (board .memory) x)) in
         let same : some found ≡ some plain =
         ap (openedFrom g (board .memory)) (sym f) ∙ ap (λ (z : Outcome). openedFrom g (z .board .memory) (finishedIn g (z .board .memory))) (sym is) ∙ o
         in

@@ -1,7 +1,7 @@
 -- The ten lettered cases of document 01 as a table: what the rules give, and what they must give. N = 2 and B = 1 unless said.
 use mathlib.Core.Bool.{Bool, true, false, _&&_}
 use mathlib.Core.List.{List, [], _∷_, _++_}
-use Prim.Native.Nat.{ℕ, _+_, _*_}
+use Prim.Native.Nat.{ℕ, _*_}
 use lib.Dec.{eqb}
 use lib.ListN.{replicate}
 use Rattle.words.specs.Words.{word, words, blockAt, number}
@@ -147,7 +147,7 @@ lettered =
     -- i. Step with n = 9 leaves Writing (backup B has its registers and its table word, and the mark still names A)
     ∷ (answers steppedNine is (0 ∷ 9 ∷ 260 ∷ []))
     ∷ (phases (steppedNine .board .volatile .controller .phase) is (2 ∷ 9 ∷ []))
-    ∷ (backupB sizes21 steppedNine is (replicate 64 7 ++ (257 ∷ 1 ∷ [])))
+    ∷ (backupB sizes21 steppedNine is (replicate 64 7 ++ (257 ∷ 3 ∷ [])))
     -- one more word makes Running (and the mark names B)
     ∷ (answers steppedTen is (0 ∷ 1 ∷ 260 ∷ []))
     ∷ (phases (steppedTen .board .volatile .controller .phase) is (0 ∷ []))

@@ -9,7 +9,7 @@ use Rattle.words.specs.Words.{Store, blockAt}
 use Rattle.rules.specs.declared.Geometry.{Geometry}
 use Rattle.rules.specs.declared.Backup.{Backup}
 use Rattle.rules.specs.Geometry.{markStart}
-use Rattle.rules.specs.Starts.{finishedIn, registersIn, tableIn, savedBlock}
+use Rattle.rules.specs.Starts.{finishedIn, savedRegisters, tableIn, savedBlock}
 use Rattle.rules.specs.Calls.{Call, load, peek, store, begin, step, format, recover}
 
 -- every block, and the registers or their absence
@@ -25,20 +25,20 @@ pub record Plain : Type 0 where
   -- what stood when the checkpoint that is on its way was begun
   pub onItsWay : Option Picture
 
--- after a format every block is fill and the registers are 0; it counts as the first checkpoint
+-- after a format every block is fill and there are no registers; it counts as the first checkpoint
 unfoldable pub formatted : ℕ → Plain
 formatted fill = record {
   live = λ block. replicate 64 fill;
-  kept = record { blocks = λ block. replicate 64 fill; registers = some (replicate 64 0) };
+  kept = record { blocks = λ block. replicate 64 fill; registers = none };
   onItsWay = none;
 }
 
--- what a backup saves of a memory: every block at its saved place, and the registers
+-- what a backup saves of a memory: every block at its saved place, and the registers or their absence
 unfoldable pub savedIn : Geometry → List ℕ → Backup → Picture
-unfolding savedBlock tableIn registersIn blockAt
+unfolding savedBlock tableIn savedRegisters blockAt
 savedIn g memory backup = record {
   blocks = λ block. blockAt memory (savedBlock g (tableIn g memory backup) block);
-  registers = some (registersIn g memory backup);
+  registers = savedRegisters g memory backup;
 }
 
 -- after the recovery of a memory of which nothing was known: what its finished backup saves

@@ -8,6 +8,7 @@ use lib.ListN.{length, getD, set, take, drop, replicate}
 use Rattle.words.specs.Words.{word, words, lay, number}
 use Rattle.rules.specs.declared.Geometry.{Geometry}
 use Rattle.rules.specs.declared.Backup.{Backup}
+use Rattle.rules.specs.declared.Backup.the-variants.{B}
 use Rattle.rules.specs.declared.State.{State}
 use Rattle.rules.specs.declared.Place.{Place}
 use Rattle.rules.specs.Geometry.{markStart}
@@ -17,11 +18,11 @@ use Rattle.rules.specs.Numbers.{numberOf}
 use Rattle.rules.specs.Power.{Outcome, stored}
 use Rattle.rules.specs.Loads.{spotIn, shows, blockIn, seen, loadNumber}
 use Rattle.rules.specs.Stores.{replaced, to, stores, moveIn, slotFor}
-use Rattle.rules.specs.Checkpoints.{begun}
-use Rattle.rules.specs.Starts.{finishedIn, registersIn, tableIn}
+use Rattle.rules.specs.Checkpoints.{begun, saved, checkpointList, countOf, nextWords}
+use Rattle.rules.specs.Starts.{finishedIn, savedRegisters, tableIn, recorded, registersGiven}
 use Rattle.rules.specs.Calls.{Call, load, peek, store, begin, step, format, recover, plan, call}
-use Rattle.rules.specs.PlainMachine.{Picture, Plain, formatted, note}
-use Rattle.rules.specs.Runs.{Event, Run, runs, Lengths, NoFormat, AllAllowed}
+use Rattle.rules.specs.PlainMachine.{Picture, Plain, note}
+use Rattle.rules.specs.Runs.{Event, Run, runs, Lengths, NoFormat, FromFormat, formattedRun, runFrom, NoneFinished}
 
 -- ---- what is handed out
 
@@ -34,14 +35,18 @@ pub record Shows (board : Board) (plain : Plain) : Type 0 where
 
 -- ---- demand 3
 
--- a recovery is accepted and gives every block and the registers of a picture: every load in range is then accepted and gives its bytes
+-- a recovery is accepted and gives every block of a picture, and its registers or their absence:
+-- every load in range is then accepted and gives its bytes
 pub record Recovers (g : Geometry) (picture : Picture) (outcome : Outcome) : Type 0 where
   pub accepted : numberOf (outcome .number) ≡ 0
   pub blocks :
       (block offset len : ℕ) → block < g .blocks → offset ≤ 63 → len ≢ 0 → offset + len ≤ 64 → (p : ℕ)
       → (numberOf (call p (outcome .board) (load block offset len) .number) ≡ 0)
       × (call p (outcome .board) (load block offset len) .gives ≡ take len (drop offset (picture .blocks block)))
-  pub registers : some (outcome .board .volatile .controller .registers) ≡ picture .registers
+  -- the answer hands out the registers, or says that there are none
+  pub registers : registersGiven (outcome .gives) ≡ picture .registers
+  -- the record has them, or zeros
+  pub in-record : outcome .board .volatile .controller .registers ≡ recorded (picture .registers)
 
 -- the same of a memory, whatever the volatile memory holds
 pub record RecoversTo (g : Geometry) (picture : Picture) (memory : List ℕ) : Type 0 where
@@ -65,12 +70,33 @@ pub record Safe (g : Geometry) (run : Run) : Type 0 where
 
 -- one finished format on any memory contents, then any allowed events
 unfoldable pub Demand3 : Type 0
-Demand3 =
-    (g : Geometry) (fill p : ℕ) (before : Board)
-    → numberOf (call p before (format g fill) .number) ≡ 0
-    → (events : List Event)
-    → AllAllowed g events
-    → Safe g (runs events (record { board = call p before (format g fill) .board; promise = some (formatted fill) }))
+Demand3 = (g : Geometry) (from : FromFormat g) → Safe g (runFrom from)
+
+-- a recovery is accepted, hands out no registers and leaves zeros in the record
+pub record WithoutRegisters (outcome : Outcome) : Type 0 where
+  pub accepted : numberOf (outcome .number) ≡ 0
+  pub registers : registersGiven (outcome .gives) ≡ none
+  pub in-record : outcome .board .volatile .controller .registers ≡ replicate 64 0
+
+-- until a checkpoint is finished after the format there are no registers, whatever the volatile memory holds
+unfoldable pub NoRegistersYet : Type 0
+NoRegistersYet =
+    (g : Geometry) (from : FromFormat g)
+    → NoneFinished g (formattedRun from) (from .events)
+    → (volatile : Volatile)
+    → Lengths g volatile
+    → (p : ℕ)
+    → WithoutRegisters (call p (record { memory = runFrom from .board .memory; volatile = volatile }) (recover g))
+
+-- until then the words of a step are those of backup B's list: the registers, the table, and mark 2
+unfoldable pub NextToB : Type 0
+NextToB =
+    (g : Geometry) (from : FromFormat g)
+    → NoneFinished g (formattedRun from) (from .events)
+    → (n : ℕ)
+    → let board = runFrom from .board in
+    nextWords board n
+    ≡ take n (drop (countOf (phaseOf board)) (checkpointList g B (board .volatile .controller .registers) (map (changed saved) (tableOf board))))
 
 -- ---- demand 2
 
@@ -115,7 +141,7 @@ pub record RecoveryLeaves (board : Board) (g : Geometry) (after : Board) : Type 
   pub backup : Backup
   pub named : finishedIn g (board .memory) ≡ some backup
   pub table : tableOf after ≡ tableIn g (board .memory) backup
-  pub registers : after .volatile .controller .registers ≡ registersIn g (board .memory) backup
+  pub registers : after .volatile .controller .registers ≡ recorded (savedRegisters g (board .memory) backup)
   -- it stores no nonvolatile word
   pub memory : after .memory ≡ board .memory
 

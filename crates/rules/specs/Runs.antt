@@ -1,6 +1,6 @@
 -- Runs: lists of calls and losses of supply, and what stands promised after them.
 use mathlib.Core.Path.{_≡_}
-use mathlib.Core.Bool.{cond}
+use mathlib.Core.Bool.{false, cond}
 use mathlib.Core.List.{List, [], _∷_}
 use mathlib.Core.Option.{Option, none, some}
 use Prim.Native.Nat.{ℕ, _*_}
@@ -12,7 +12,7 @@ use Rattle.rules.specs.Board.{Board, Volatile, sizes}
 use Rattle.rules.specs.Numbers.{numberOf}
 use Rattle.rules.specs.Power.{Outcome, stored}
 use Rattle.rules.specs.Calls.{Call, load, peek, store, begin, step, format, recover, plan, call}
-use Rattle.rules.specs.PlainMachine.{Plain, formatted, opened, note}
+use Rattle.rules.specs.PlainMachine.{Plain, formatted, opened, hasMark, note}
 
 pub data Event : Type 0 where
   -- a call with its allowance
@@ -112,3 +112,35 @@ pub data Allowed (g : Geometry) : Event → Type 0 where
 pub data AllAllowed (g : Geometry) : List Event → Type 0 where
   no-more : AllAllowed g []
   and-then : {e : Event} {events : List Event} → Allowed g e → AllAllowed g events → AllAllowed g (e ∷ events)
+
+-- one finished format on any memory contents, then any allowed events
+pub record FromFormat (g : Geometry) : Type 0 where
+  pub fill : ℕ
+  pub p : ℕ
+  pub before : Board
+  pub finished : numberOf (call p before (format g fill) .number) ≡ 0
+  pub events : List Event
+  pub allowed : AllAllowed g events
+
+-- the format counts as the first checkpoint
+abbrev pub formattedRun : {g : Geometry} → FromFormat g → Run
+formattedRun {g} from = record { board = call (from .p) (from .before) (format g (from .fill)) .board; promise = some (formatted (from .fill)) }
+
+-- the run as it stands after the events
+abbrev pub runFrom : {g : Geometry} → FromFormat g → Run
+runFrom from = runs (from .events) (formattedRun from)
+
+-- a run goes on by allowed events, none of which finishes a checkpoint
+pub data NoneFinished (g : Geometry) : Run → List Event → Type 0 where
+  no-more : {run : Run} → NoneFinished g run []
+  and-call :
+      {run : Run} {p : ℕ} {c : Call} {events : List Event}
+      → NoFormat c
+      → hasMark g (stored p (plan (run .board) c)) ≡ false
+      → NoneFinished g (doing p c run) events
+      → NoneFinished g run (does p c ∷ events)
+  and-stop :
+      {run : Run} {volatile : Volatile} {events : List Event}
+      → Lengths g volatile
+      → NoneFinished g (stopping volatile run) events
+      → NoneFinished g run (stop volatile ∷ events)

@@ -1,4 +1,5 @@
 -- Format and recovery, and what of a memory a recovery reads (document 01, Checkpoints).
+use mathlib.Core.Path.{_≡_}
 use mathlib.Core.Bool.{Bool, true, false, not, _&&_, _||_, cond}
 use mathlib.Core.List.{List, [], _∷_, _++_}
 use mathlib.Core.Option.{Option, none, some}
@@ -16,20 +17,26 @@ use Rattle.rules.specs.declared.Lookup.{Lookup}
 use Rattle.rules.specs.declared.Lookup.the-variants.{Entry, Nothing}
 use Rattle.rules.specs.declared.Number.{Number}
 use Rattle.rules.specs.declared.Number.the-variants as No
+use Rattle.rules.specs.declared.Registers.{Registers}
+use Rattle.rules.specs.declared.Registers.the-variants.{Saved, Absent}
+use Rattle.rules.specs.declared.Recovery.{Recovery}
 use Rattle.rules.specs.Geometry.{homeStart, homeWords, backupStart, backupWords, markStart, homeBlock, checkpointBlock}
 use Rattle.rules.specs.TableWords.{lookup, distinct, every}
-use Rattle.rules.specs.Board.{Board, cacheOf}
+use Rattle.rules.specs.Board.{Board, cacheOf, boardOf}
 use Rattle.rules.specs.Numbers.{_⇒_, firstOf, outside, inexact, wellFormed}
-use Rattle.rules.specs.Power.{Plan, refuse, carry, guard}
-use Rattle.rules.specs.Checkpoints.{markOf}
+use Rattle.rules.specs.Power.{Plan, refuse, carry, guard, Outcome}
 
--- ---- format: mark 0; HOME all fill; A's registers 0; A's table 0; mark 1
+-- ---- format: mark 0; HOME all fill; A's registers 0; A's table 0; mark 3 (document 02, No. 2)
+
+-- the last word: A is finished and has no registers
+abbrev pub formatMark : ℕ
+formatMark = 3
 
 unfoldable pub formatList : Geometry → ℕ → List Store
 unfolding fillTo numbersTo
 formatList g fill =
     numbersTo (markStart g) (0 ∷ [])
-    ++ (fillTo (homeStart g) (homeWords g) fill ++ (fillTo (backupStart g A) (backupWords g) 0 ++ numbersTo (markStart g) (markOf A ∷ [])))
+    ++ (fillTo (homeStart g) (homeWords g) fill ++ (fillTo (backupStart g A) (backupWords g) 0 ++ numbersTo (markStart g) (formatMark ∷ [])))
 
 unfoldable pub formatNumber : Board → Geometry → Number
 unfolding firstOf outside inexact
@@ -49,17 +56,29 @@ formatPlan board g fill =
 
 -- ---- what a recovery reads
 
--- finished(mark): 1 = A is finished, 2 = B is finished, all else = none; a mark is compared as a whole 64-bit word
+-- the mark: 1 = A is finished, 2 = B is finished, 3 = A is finished and has no registers, all else = none;
+-- it is compared as a whole 64-bit word
 unfoldable pub finishedBy : ℕ → Option Backup
-finishedBy mark = cond (eqb mark 1) (some A) (cond (eqb mark 2) (some B) none)
+finishedBy mark = cond (eqb mark 1) (some A) (cond (eqb mark 2) (some B) (cond (eqb mark 3) (some A) none))
+
+unfoldable pub hasRegisters : ℕ → Bool
+hasRegisters mark = not (eqb mark 3)
+
+abbrev pub markIn : Geometry → List ℕ → ℕ
+markIn g memory = number (word memory (markStart g))
 
 unfoldable pub finishedIn : Geometry → List ℕ → Option Backup
 unfolding finishedBy number word
-finishedIn g memory = finishedBy (number (word memory (markStart g)))
+finishedIn g memory = finishedBy (markIn g memory)
 
 unfoldable pub registersIn : Geometry → List ℕ → Backup → List ℕ
 unfolding words
 registersIn g memory backup = words memory (backupStart g backup) 8
+
+-- the registers of the finished backup, or their absence
+unfoldable pub savedRegisters : Geometry → List ℕ → Backup → Option (List ℕ)
+unfolding hasRegisters number word registersIn
+savedRegisters g memory backup = cond (hasRegisters (markIn g memory)) (some (registersIn g memory backup)) none
 
 unfoldable pub tableIn : Geometry → List ℕ → Backup → List ℕ
 unfolding numbers
@@ -77,7 +96,7 @@ unfoldable pub sound : Geometry → List ℕ → Bool
 unfolding wellFormed onlyClean every distinct
 sound g table = every (wellFormed onlyClean g) table && distinct table
 
--- 10 NO CHECKPOINT: mark neither 1 nor 2
+-- 10 NO CHECKPOINT: a mark other than 1, 2 or 3
 unfoldable pub noCheckpoint : Option Backup → Bool
 noCheckpoint none = true
 noCheckpoint (some backup) = false
@@ -100,23 +119,50 @@ recoverNumber board g finished =
     ∷ (unsound g (board .memory) finished ⇒ No.Backup)
     ∷ [])
 
+-- where there are no registers none are handed out, and the record's are 0
+unfoldable pub handedOut : Option (List ℕ) → List ℕ
+handedOut none = []
+handedOut (some registers) = registers
+
+unfoldable pub recorded : Option (List ℕ) → List ℕ
+recorded none = replicate 64 0
+recorded (some registers) = registers
+
 unfoldable pub recoverFrom : Board → Geometry → Option Backup → Plan
-unfolding registersIn tableIn
+unfolding savedRegisters tableIn handedOut recorded
 recoverFrom board g none = refuse No.NoCheckpoint
 recoverFrom board g (some backup) =
+    let registers = savedRegisters g (board .memory) backup in
     carry []
     (record {
       cache = cacheOf board;
       table = tableIn g (board .memory) backup;
-      controller = record { geometry = g; registers = registersIn g (board .memory) backup; finished = backup; phase = Running };
+      controller = record { geometry = g; registers = recorded registers; finished = backup; phase = Running };
     })
-    []
+    (handedOut registers)
 
 unfoldable pub recoverPlan : Board → Geometry → Plan
 unfolding guard recoverNumber recoverFrom finishedIn
 recoverPlan board g =
     let finished = finishedIn g (board .memory) in
     guard (recoverNumber board g finished) (recoverFrom board g finished)
+
+-- what the bytes handed out say of the registers: these ones, or that there are none
+unfoldable pub registersGiven : List ℕ → Option (List ℕ)
+registersGiven [] = none
+registersGiven (byte ∷ bytes) = some (byte ∷ bytes)
+
+-- registers or none as a value, by what an answer says of them and the record's bytes
+abbrev pub registersOf : Registers → List ℕ → Option (List ℕ)
+registersOf Saved bytes = some bytes
+registersOf Absent bytes = none
+
+-- a recovery answers r and leaves these bytes: what it says is the outcome's, all of it
+pub record Recovered (outcome : Outcome) (r : Recovery) (memory cache table : List ℕ) : Type 0 where
+  pub number : r .answer .number ≡ outcome .number
+  pub words : r .answer .words ≡ outcome .words
+  pub registers : registersOf (r .registers) (r .answer .controller .registers) ≡ registersGiven (outcome .gives)
+  pub board : boardOf memory cache table (r .answer .controller) ≡ outcome .board
 
 -- ---- the place where a block is saved, by the words of a backup's table
 

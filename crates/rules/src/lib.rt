@@ -135,3 +135,15 @@ pub struct Answer {
     pub words: usize,
     pub controller: Controller,
 }
+
+// Whether there are registers: a recovery hands them out in its record, or says that there are none (document 02, No. 2).
+pub enum Registers {
+    Saved,
+    Absent,
+}
+
+// The answer of a recovery.
+pub struct Recovery {
+    pub answer: Answer,
+    pub registers: Registers,
+}

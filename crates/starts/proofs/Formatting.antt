@@ -25,7 +25,8 @@ use Rattle.rules.specs.Starts.{formatList, formatNumber, formatPlan}
 use Rattle.rules.specs.Calls.{plan, call, format}
 use Rattle.checks.specs.Answers.{answerOf, refusedOf}
 use Rattle.checks.proofs.Settled.{refused-is, guard-on, cut-sized, whole-is}
-use Rattle.starts.specs.Records.{formattedOf, cutShortOf}
+use Rattle.backups.specs.Records.{startedOf}
+use Rattle.starts.specs.Records.{cutShortOf}
 
 -- ---- a run laid in the part that starts at its place
 
@@ -78,7 +79,7 @@ module _ (g : Geometry) (fill : ℕ) {p p1 p2 p3 home homes back backs r1 r2 r3 
       → Lays p (numbersTo (markStart g) (0 ∷ [])) m m1 r1 → p1 ≡ p - r1
       → Lays p1 (fillTo home homes fill) m1 m2 r2 → p2 ≡ p1 - r2
       → Lays p2 (fillTo back backs 0) m2 m3 r3 → p3 ≡ p2 - r3
-      → Lays p3 (numbersTo (markStart g) (1 ∷ [])) m3 m4 r4
+      → Lays p3 (numbersTo (markStart g) (3 ∷ [])) m3 m4 r4
       → Lays p (formatList g fill) m m4 (r1 + (r2 + (r3 + r4)))
   unfolding formatList
   format-lays a b c d l1 q1 l2 q2 l3 q3 l4 =
@@ -107,7 +108,7 @@ module _ (p : ℕ) (m c t : List ℕ) (k : Controller) (g : Geometry) (fill : �
 
   module _ (z : numberOf n ≡ 0) where
     goes : call p (boardOf m c t k) (format g fill)
-        ≡ settle p (boardOf m c t k) (carry (formatList g fill) (record { cache = c; table = replicate (g .slots) 0; controller = formattedOf g }) [])
+        ≡ settle p (boardOf m c t k) (carry (formatList g fill) (record { cache = c; table = replicate (g .slots) 0; controller = startedOf g A (replicate 64 0) }) [])
     unfolding call plan formatPlan
     goes = guard-on p (boardOf m c t k) _ n _ e z
 
@@ -118,9 +119,9 @@ module _ (p : ℕ) (m c t : List ℕ) (k : Controller) (g : Geometry) (fill : �
       pub format-cut : {answer : Answer} → p < words → answer ≡ answerOf No.Cut p (cutShortOf k g) → call p (boardOf m c t k) (format g fill) ≡ outcomeOf answer m′ c t
       format-cut {answer} h q = goes ∙ cut-sized p m c t k (formatList g fill) m′ words same answer _ h q
 
-      pub format-whole : {answer : Answer} {t′ : List ℕ} → words ≤ p → t′ ≡ replicate (g .slots) 0 → answer ≡ answerOf No.Done words (formattedOf g)
+      pub format-whole : {answer : Answer} {t′ : List ℕ} → words ≤ p → t′ ≡ replicate (g .slots) 0 → answer ≡ answerOf No.Done words (startedOf g A (replicate 64 0))
           → call p (boardOf m c t k) (format g fill) ≡ outcomeOf answer m′ c t′
       format-whole {answer} {t′} h y q =
           goes
-          ∙ whole-is p m c t k (formatList g fill) m′ words same answer c (replicate (g .slots) 0) (formattedOf g) h q
+          ∙ whole-is p m c t k (formatList g fill) m′ words same answer c (replicate (g .slots) 0) (startedOf g A (replicate 64 0)) h q
           ∙ ap (outcomeOf answer m′ c) (sym y)

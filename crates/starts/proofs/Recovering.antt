@@ -1,92 +1,53 @@
--- A recovery: the mark, the finished backup as a part of the memory, and the call's outcome.
-use mathlib.Core.Path.{_≡_, refl, sym, ap, _∙_}
+-- A recovery: what its answer says of the call's outcome.
+use mathlib.Core.Path.{_≡_, refl, sym, ap, _∙_, subst}
 use mathlib.Core.Logic.{_≢_}
-use mathlib.Core.Bool.{Bool, true, false, not}
+use mathlib.Core.Bool.{Bool, true, false, not, cond}
 use mathlib.Core.List.{List, [], _∷_}
 use mathlib.Core.Option.{Option, none, some}
-use Prim.Native.Nat.{ℕ, _+_, _*_, _-_, _≤_}
-use native.Mathlib.Omega.{arith}
-use native.Mathlib.Nat.{add-zero, suc-ne-zero}
-use lib.ListN.{length, take, drop}
-use borrow.Author.Tests.{ne-eqb}
-use Rattle.words.specs.Words.{word, words, number, numbers}
+use Prim.Native.Nat.{ℕ, _*_, _-_}
+use native.Mathlib.Nat.{suc-ne-zero}
+use lib.ListN.{length}
+use Rattle.words.specs.Words.{words, lay, number, numbers}
 use Rattle.words.proofs.All.{All, done, also}
-use Rattle.words.proofs.Parts.{tail-part, word-part, words-of-part, numbers-of-part}
-use Rattle.words.proofs.Laying.{lays-nothing}
 use Rattle.rules.specs.declared.Geometry.{Geometry}
 use Rattle.rules.specs.declared.Backup.{Backup}
-use Rattle.rules.specs.declared.Backup.the-variants.{A, B}
+use Rattle.rules.specs.declared.Backup.the-variants.{A}
 use Rattle.rules.specs.declared.Controller.{Controller}
 use Rattle.rules.specs.declared.Number.{Number}
 use Rattle.rules.specs.declared.Number.the-variants as No
-use Rattle.rules.specs.declared.Answer.{Answer}
-use Rattle.rules.specs.Geometry.{backupStart, backupWords, markStart}
-use Rattle.rules.specs.Board.{Board, boardOf}
+use Rattle.rules.specs.declared.Registers.{Registers}
+use Rattle.rules.specs.declared.Registers.the-variants.{Saved, Absent}
+use Rattle.rules.specs.declared.Recovery.{Recovery}
+use Rattle.rules.specs.Geometry.{backupStart, memoryWords}
+use Rattle.rules.specs.Board.{Board, Volatile, boardOf}
 use Rattle.rules.specs.Numbers.{numberOf, Check, _⇒_, firstOf, outside, inexact}
-use Rattle.rules.specs.Power.{guard, settle, outcomeOf}
-use Rattle.rules.specs.Starts.{formatNumber, finishedBy, finishedIn, registersIn, tableIn, sound, noCheckpoint, unsound, recoverNumber, recoverFrom, recoverPlan}
+use Rattle.rules.specs.Power.{guard, Outcome, whole, settle, outcomeOf}
+use Rattle.rules.specs.Starts.{formatNumber, hasRegisters, markIn, finishedIn, savedRegisters, tableIn, sound, noCheckpoint, unsound, recoverNumber, handedOut, recorded, recoverFrom, recoverPlan, registersGiven, registersOf, Recovered}
 use Rattle.rules.specs.Calls.{plan, call, recover}
+use Rattle.rules.proofs.Saving.{given-saved}
+use Rattle.rules.proofs.Answers.{carry-nothing}
 use Rattle.checks.specs.Ready.{Ready}
 use Rattle.checks.specs.Answers.{answerOf, refusedOf}
 use Rattle.checks.proofs.Passed.{hit, miss, none-applies, stopped, Refuses, refuses, go-on, sizes-checks}
-use Rattle.checks.proofs.Settled.{refused-is, guard-on, whole-is}
-use Rattle.starts.specs.Records.{openedOf, Opens}
+use Rattle.checks.proofs.Settled.{refused-is, guard-on}
+use Rattle.backups.specs.Records.{openedOf, openedRecovery, refusedRecovery, Opens}
+use Rattle.backups.proofs.Opening.{from, table-in, registers-in}
 
--- ---- what a mark says
+-- ---- what a recovery says of an outcome
 
-pub marked-1 : (mark : ℕ) → mark ≡ 1 → some A ≡ finishedBy mark
-unfolding finishedBy
-marked-1 mark e = rw e
+-- a refusal hands out nothing, and says that there are no registers
+refused-says : {m c t : List ℕ} {k : Controller} {outcome : Outcome} {r : Recovery} (refusal : Number)
+    → r ≡ refusedRecovery refusal k → outcome ≡ outcomeOf (refusedOf refusal k) m c t → Recovered outcome r m c t
+unfolding registersGiven
+refused-says {m} {c} {t} {k} {outcome} refusal q o =
+    subst (λ (z : Recovery). Recovered outcome z m c t) (sym q)
+    (subst (λ (z : Outcome). Recovered z (refusedRecovery refusal k) m c t) (sym o) (record { number = refl; words = refl; registers = refl; board = refl }))
 
-pub marked-2 : (mark : ℕ) → mark ≡ 2 → some B ≡ finishedBy mark
-unfolding finishedBy
-marked-2 mark e = rw e
-
-pub marked-else : (mark : ℕ) → mark ≢ 1 → mark ≢ 2 → none ≡ finishedBy mark
-unfolding finishedBy
-marked-else mark a b = rw (ne-eqb mark 1 a, ne-eqb mark 2 b)
-
--- ---- parts of the memory
-
-module _ (m : List ℕ) (a : ℕ) where
-  abbrev from : List ℕ
-  from = take (length m - 8 * a) (drop (8 * a) m)
-
-  pub mark-in : (g : Geometry) (mark : ℕ) {f : Option Backup} → a ≡ markStart g → mark ≡ number (word from 0) → f ≡ finishedBy mark → f ≡ finishedIn g m
-  unfolding finishedIn
-  mark-in g mark e q y =
-      y
-      ∙ ap finishedBy q
-      ∙ ap (λ (z : List ℕ). finishedBy (number z)) (ap (λ (z : List ℕ). word z 0) (tail-part (8 * a) m) ∙ word-part a 0 m)
-      ∙ ap (λ (z : ℕ). finishedBy (number (word m z))) (add-zero a ∙ e)
-
-  module _ (g : Geometry) (backup : Backup) (e : a ≡ backupStart g backup) where
-    table-in : numbers from 8 (g .slots) ≡ tableIn g m backup
-    unfolding tableIn
-    table-in = ap (λ (z : List ℕ). numbers z 8 (g .slots)) (tail-part (8 * a) m) ∙ numbers-of-part a (g .slots) 8 m ∙ ap (λ (z : ℕ). numbers m (z + 8) (g .slots)) e
-
-    registers-in : words from 0 8 ≡ registersIn g m backup
-    unfolding registersIn
-    registers-in = ap (λ (z : List ℕ). words z 0 8) (tail-part (8 * a) m) ∙ words-of-part a 8 0 m ∙ ap (λ (z : ℕ). words m z 8) (add-zero a ∙ e)
-
--- a backup is inside the memory
-pub backup-inside : {g : Geometry} {m c t : List ℕ} {a : ℕ} (backup : Backup) → Ready g m c t → a ≡ backupStart g backup → 8 * a + 8 * backupWords g ≤ length m
-backup-inside A l e = omega (arith, l .memory)
-backup-inside B l e = omega (arith, l .memory)
-
--- ---- what going back to a backup leaves
-
-module _ (g : Geometry) (backup : Backup) (k : Controller) (part t : List ℕ) {answer : Answer} {s : Bool} (e : s ≡ sound g (numbers part 8 (g .slots))) where
-  pub opens-not : s ≡ false → answer ≡ refusedOf No.Backup k → Opens g backup k part t t answer
-  opens-not f q =
-      let h : sound g (numbers part 8 (g .slots)) ≡ false = sym e ∙ f in
-      record { table-is = rw h; answer-is = rw h q }
-
-  pub opens-sound : {t′ : List ℕ} → s ≡ true → t′ ≡ numbers part 8 (g .slots) → answer ≡ answerOf No.Done 0 (openedOf g backup (words part 0 8))
-      → Opens g backup k part t t′ answer
-  opens-sound f y q =
-      let h : sound g (numbers part 8 (g .slots)) ≡ true = sym e ∙ f in
-      record { table-is = rw h y; answer-is = rw h q }
+-- what the record has, the answer says
+says-recorded : (registers : Registers) (bytes : List ℕ) → registersOf registers (recorded (registersOf registers bytes)) ≡ registersOf registers bytes
+unfolding recorded
+says-recorded Saved bytes = refl
+says-recorded Absent bytes = refl
 
 -- ---- the call
 
@@ -108,8 +69,8 @@ module _ (m c t : List ℕ) (k : Controller) (g : Geometry) (n : Number) (e : n 
   unfolding call plan recoverPlan
   call-is p f q = ap (λ (z : Option Backup). settle p board (guard (recoverNumber board g z) (recoverFrom board g z))) q
 
-  pub recover-refused : (p : ℕ) {answer : Answer} → numberOf n ≢ 0 → answer ≡ refusedOf n k → call p board (recover g) ≡ outcomeOf answer m c t
-  recover-refused p ne q = call-is p (finishedIn g m) refl ∙ refused-is p m c t k _ n _ _ (stops (finishedIn g m) ne) ne q
+  pub recover-refused : (p : ℕ) {r : Recovery} → numberOf n ≢ 0 → r ≡ refusedRecovery n k → Recovered (call p board (recover g)) r m c t
+  recover-refused p ne q = refused-says n q (call-is p (finishedIn g m) refl ∙ refused-is p m c t k _ n _ _ (stops (finishedIn g m) ne) ne refl)
 
   module _ (z : numberOf n ≡ 0) where
     refuse-first : All Refuses first
@@ -120,28 +81,45 @@ module _ (m c t : List ℕ) (k : Controller) (g : Geometry) (n : Number) (e : n 
     unfolding recoverNumber
     goes f q = q ∙ sym (go-on {xs = first} (later f) refuse-first (ap numberOf (sizes-checks board g ∙ sym e) ∙ z))
 
-    pub no-checkpoint : (p : ℕ) {answer : Answer} → finishedIn g m ≡ none → answer ≡ refusedOf No.NoCheckpoint k → call p board (recover g) ≡ outcomeOf answer m c t
+    pub no-checkpoint : (p : ℕ) {r : Recovery} → finishedIn g m ≡ none → r ≡ refusedRecovery No.NoCheckpoint k → Recovered (call p board (recover g)) r m c t
     unfolding noCheckpoint numberOf
-    no-checkpoint p f q = call-is p none f ∙ refused-is p m c t k _ No.NoCheckpoint _ _ (goes none (hit _ refl)) (suc-ne-zero 9) q
+    no-checkpoint p f q =
+        refused-says No.NoCheckpoint q (call-is p none f ∙ refused-is p m c t k _ No.NoCheckpoint _ _ (goes none (hit _ refl)) (suc-ne-zero 9) refl)
 
-    module _ (p : ℕ) (backup : Backup) (f : finishedIn g m ≡ some backup) {answer : Answer} where
-      not-sound : sound g (tableIn g m backup) ≡ false → answer ≡ refusedOf No.Backup k → call p board (recover g) ≡ outcomeOf answer m c t
+    module _ (p : ℕ) (backup : Backup) (f : finishedIn g m ≡ some backup) where
+      not-sound : {r : Recovery} → sound g (tableIn g m backup) ≡ false → r ≡ refusedRecovery No.Backup k → Recovered (call p board (recover g)) r m c t
       unfolding noCheckpoint unsound numberOf
       not-sound s q =
-          call-is p (some backup) f
-          ∙ refused-is p m c t k _ No.Backup _ _ (goes (some backup) (miss No.NoCheckpoint _ refl (hit _ (ap not s)))) (suc-ne-zero 10) q
+          refused-says No.Backup q
+          (call-is p (some backup) f
+          ∙ refused-is p m c t k _ No.Backup _ _ (goes (some backup) (miss No.NoCheckpoint _ refl (hit _ (ap not s)))) (suc-ne-zero 10) refl)
 
-      is-sound : sound g (tableIn g m backup) ≡ true → answer ≡ answerOf No.Done 0 (openedOf g backup (registersIn g m backup))
-          → call p board (recover g) ≡ outcomeOf answer m c (tableIn g m backup)
-      unfolding noCheckpoint unsound numberOf recoverFrom
-      is-sound s q =
+      after : Volatile
+      after = record { cache = c; table = tableIn g m backup; controller = openedOf g backup (savedRegisters g m backup) }
+
+      goes-back : sound g (tableIn g m backup) ≡ true → call p board (recover g) ≡ whole board [] after (handedOut (savedRegisters g m backup))
+      unfolding noCheckpoint unsound numberOf recoverFrom after
+      goes-back s =
           call-is p (some backup) f
           ∙ guard-on p board (recoverFrom board g (some backup)) No.Done _ (goes (some backup) (miss No.NoCheckpoint _ refl (miss No.Backup _ (ap not s) none-applies))) refl
-          ∙ whole-is p m c t k [] m 0 (lays-nothing p m) answer c (tableIn g m backup) (openedOf g backup (registersIn g m backup)) (omega arith) q
+          ∙ carry-nothing p board _ _
 
-    pub recovered : (p : ℕ) (backup : Backup) (a : ℕ) {t′ : List ℕ} {answer : Answer} → finishedIn g m ≡ some backup → a ≡ backupStart g backup
-        → Opens g backup k (from m a) t t′ answer → call p board (recover g) ≡ outcomeOf answer m c t′
-    recovered p backup a {t′} {answer} f y o = go (sound g (tableIn g m backup)) refl
+      is-sound : (registers : Registers) (bytes : List ℕ) → registersOf registers bytes ≡ savedRegisters g m backup → length m ≡ 8 * memoryWords g → sound g (tableIn g m backup) ≡ true
+          → Recovered (call p board (recover g)) (record { answer = answerOf No.Done 0 (openedOf g backup (registersOf registers bytes)); registers = registers }) m c (tableIn g m backup)
+      unfolding after lay
+      is-sound registers bytes x size s =
+          subst (λ (o : Outcome). Recovered o (record { answer = answerOf No.Done 0 (openedOf g backup (registersOf registers bytes)); registers = registers }) m c (tableIn g m backup)) (sym (goes-back s))
+          (record {
+            number = refl;
+            words = refl;
+            registers = says-recorded registers bytes ∙ x ∙ sym (given-saved g m backup size);
+            board = ap (λ (z : Option (List ℕ)). boardOf m c (tableIn g m backup) (openedOf g backup z)) x;
+          })
+
+    pub recovered : (p : ℕ) (backup : Backup) (a : ℕ) (registers : Registers) {t′ : List ℕ} {r : Recovery} → Ready g m c t → finishedIn g m ≡ some backup → a ≡ backupStart g backup
+        → ((bytes : List ℕ) → registersOf registers bytes ≡ cond (hasRegisters (markIn g m)) (some bytes) none)
+        → Opens g backup registers k (from m a) t t′ r → Recovered (call p board (recover g)) r m c t′
+    recovered p backup a registers {t′} {r} l f y x o = go (sound g (tableIn g m backup)) refl
       where
         table : numbers (from m a) 8 (g .slots) ≡ tableIn g m backup
         table = table-in m a g backup y
@@ -149,13 +127,14 @@ module _ (m c t : List ℕ) (k : Controller) (g : Geometry) (n : Number) (e : n 
         at-part : {s : Bool} → sound g (tableIn g m backup) ≡ s → sound g (numbers (from m a) 8 (g .slots)) ≡ s
         at-part s = ap (sound g) table ∙ s
 
-        go : (s : Bool) → sound g (tableIn g m backup) ≡ s → call p board (recover g) ≡ outcomeOf answer m c t′
+        go : (s : Bool) → sound g (tableIn g m backup) ≡ s → Recovered (call p board (recover g)) r m c t′
         go true s =
-            let q : answer ≡ answerOf No.Done 0 (openedOf g backup (words (from m a) 0 8)) = rw (at-part s) at (o .answer-is) in
+            let q : r ≡ openedRecovery g backup registers (from m a) = rw (at-part s) at (o .recovery-is) in
             let w : t′ ≡ numbers (from m a) 8 (g .slots) = rw (at-part s) at (o .table-is) in
-            is-sound p backup f s (q ∙ ap (λ (x : List ℕ). answerOf No.Done 0 (openedOf g backup x)) (registers-in m a g backup y))
-            ∙ ap (outcomeOf answer m c) (sym (w ∙ table))
+            subst (λ (z : Recovery). Recovered (call p board (recover g)) z m c t′) (sym q)
+            (subst (Recovered (call p board (recover g)) (openedRecovery g backup registers (from m a)) m c) (sym (w ∙ table))
+            (is-sound p backup f registers (words (from m a) 0 8) (registers-in m a g backup y registers x) (l .memory) s))
         go false s =
-            let q : answer ≡ refusedOf No.Backup k = rw (at-part s) at (o .answer-is) in
+            let q : r ≡ refusedRecovery No.Backup k = rw (at-part s) at (o .recovery-is) in
             let w : t′ ≡ t = rw (at-part s) at (o .table-is) in
-            not-sound p backup f s q ∙ ap (outcomeOf answer m c) (sym w)
+            subst (Recovered (call p board (recover g)) r m c) (sym w) (not-sound p backup f s q)

@@ -6,7 +6,7 @@ ghost use lib.ListN.{length, replicate};
 ghost use Rattle.words.specs.Words.{Lays, fillTo, numbersTo};
 ghost use Rattle.rules.specs.Geometry.{markStart, memoryWords};
 ghost use Rattle.rules.specs.Starts.{formatList};
-ghost use Rattle.starts.specs.Records.{formattedOf, cutShortOf};
+ghost use Rattle.starts.specs.Records.{cutShortOf};
 use rules::Backup;
 use rules::Controller;
 use rules::Geometry;
@@ -53,7 +53,7 @@ pub fn lay_format(memory: &mut [u8], g: Geometry, fill: u8, p: usize) -> usize
     let left2 = left_of(left1, filled);
     let cleared = lay_fill(memory, backup, backup_words, 0, left2);
     let left3 = left_of(left2, cleared);
-    let marked = lay_mark(memory, g, 1, left3);
+    let marked = lay_mark(memory, g, 3, left3);
     unmarked + (filled + (cleared + marked))
 }
 
@@ -64,17 +64,6 @@ pub fn clear_table(table: &mut [u64])
     while slot < table.len() {
         table[slot] = 0;
         slot += 1;
-    }
-}
-
-pub fn formatted(g: Geometry) -> Controller
-    ensures { λ r. ⌜ r ≡ formattedOf g ⌝ }
-{
-    Controller {
-        geometry: g,
-        registers: [0u8; 64],
-        finished: Backup::A,
-        phase: Phase::Running,
     }
 }
 

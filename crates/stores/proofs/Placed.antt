@@ -21,9 +21,9 @@ use Rattle.rules.specs.Loads.{Spot, inMemory, inCache, spotIn}
 use Rattle.rules.specs.Stores.{layAt, moved}
 use Rattle.checks.specs.Answers.{offOf, answerOf, refusedOf}
 use Rattle.checks.proofs.Settled.{cut-is, whole-is}
-use Rattle.stores.specs.declared.moves.Move.{Move}
-use Rattle.stores.specs.declared.moves.Move.the-variants.{To, NotWellFormed}
-use Rattle.stores.specs.Moves.{moveOf}
+use Rattle.moves.specs.declared.Move.{Move}
+use Rattle.moves.specs.declared.Move.the-variants.{To, NotWellFormed}
+use Rattle.moves.specs.Moves.{moveOf}
 
 -- ---- the ends of a store, by the spot of its block
 

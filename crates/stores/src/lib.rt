@@ -20,7 +20,6 @@ use rules::Controller;
 use rules::Number;
 
 pub mod building;
-pub mod moves;
 pub mod placing;
 
 // The table is walked for its words' form, then for the block's entry and, where it has none, for a free slot.

@@ -1,18 +1,20 @@
 -- A field's turn, from the call that it asks for and the line that is put.
 use mathlib.Core.Path.{_≡_, sym, ap, _∙_, subst}
-use mathlib.Core.Bool.{true, false}
+use mathlib.Core.Bool.{true, false, cond}
 use mathlib.Core.List.{List, [], _∷_}
+use mathlib.Core.Option.{Option}
 use Prim.Native.Nat.{ℕ}
 use lib.Dec.{eqb}
-use lib.ListN.{getD}
 use Rattle.rules.specs.declared.Geometry.{Geometry}
 use Rattle.rules.specs.declared.Controller.{Controller}
 use Rattle.rules.specs.declared.Number.{Number}
 use Rattle.rules.specs.declared.Number.the-variants as No
 use Rattle.rules.specs.declared.Answer.{Answer}
+use Rattle.rules.specs.declared.Recovery.{Recovery}
 use Rattle.rules.specs.Board.{Board, boardOf}
 use Rattle.rules.specs.Numbers.{numberOf}
 use Rattle.rules.specs.Power.{Outcome, outcomeOf}
+use Rattle.rules.specs.Starts.{registersGiven, registersOf, Recovered}
 use Rattle.rules.specs.Calls.{Call}
 use Rattle.checks.specs.Answers.{answerOf}
 use Rattle.lines.specs.Lines.{hexBytes}
@@ -25,7 +27,7 @@ use Rattle.asking.specs.declared.Asked.{Asked}
 use Rattle.asking.specs.declared.Asked.the-variants.{Allow}
 use Rattle.asking.specs.Asking.{asked}
 use Rattle.lending.specs.Lending.{called}
-use Rattle.trace.specs.Trace.{Bench, Turns, benchOf, ends, shown, turnedBy, turned}
+use Rattle.trace.specs.Trace.{Bench, Turned, Turns, benchOf, ends, shown, registerText, shownRegister, turnedBy, turned}
 
 -- by what the field asks for
 pub turned-as : (bench : Bench) (number tag : ℕ) (value : List ℕ) {asks asks′ : Asked} {slice slice′ memory cache table : List ℕ} {r : Turn}
@@ -34,6 +36,12 @@ pub turned-as : (bench : Bench) (number tag : ℕ) (value : List ℕ) {asks asks
 unfolding turned
 turned-as bench number tag value {asks} {asks′} {slice} {slice′} {memory} {cache} {table} {r} e f t =
     subst (λ (z : Asked). Turns (turnedBy bench number value z) slice slice′ memory cache table r) (sym f ∙ e) t
+
+-- what is shown of the registers, by the number and what is said of them
+shows-as : (o : Outcome) {n : Number} {z : Option (List ℕ)} → n ≡ o .number → z ≡ registersGiven (o .gives)
+    → cond (eqb (numberOf n) 0) (registerText z ∷ []) [] ≡ shownRegister o
+unfolding shownRegister
+shows-as o p q = λ i. cond (eqb (numberOf (p i)) 0) (registerText (q i) ∷ []) []
 
 module _ (number : ℕ) (allowance : Allowance) {slice slice′ memory cache table : List ℕ} {r : Turn} where
   -- a call under the allowance q, which is p
@@ -54,17 +62,23 @@ module _ (number : ℕ) (allowance : Allowance) {slice slice′ memory cache tab
     unfolding ends shown
     load-accepted b t = rw (e, b) (rw f at t)
 
-  module _ {o : Outcome} {a : Answer} {m x u : List ℕ} (e : o ≡ outcomeOf a m x u) where
-    pub recover-refused : eqb (numberOf (a .number)) 0 ≡ false → Turns (ends number allowance [] (outcomeOf a m x u)) slice slice′ memory cache table r
-        → Turns (ends number allowance (shown o (getD (o .board .volatile .controller .registers) 0 0 ∷ [])) o) slice slice′ memory cache table r
-    unfolding shown
-    recover-refused b t = rw (e, b) t
+  -- the end of a recovery, by what its answer says
+  module _ {o : Outcome} {v : Recovery} {m x u : List ℕ} (e : Recovered o v m x u) where
+    ends-as : (shows shows′ : List (List ℕ)) → shows ≡ shows′ → Turns (ends number allowance shows (outcomeOf (v .answer) m x u)) slice slice′ memory cache table r
+        → Turns (ends number allowance shows′ o) slice slice′ memory cache table r
+    unfolding ends
+    ends-as shows shows′ q t =
+        subst (λ (z : Turned). Turns z slice slice′ memory cache table r)
+        (λ i. ends number allowance (q i) (record { number = e .number i; words = e .words i; gives = o .gives; board = e .board i })) t
 
-    pub recover-accepted : eqb (numberOf (a .number)) 0 ≡ true
-        → Turns (ends number allowance (hexBytes (getD (a .controller .registers) 0 0 ∷ []) ∷ []) (outcomeOf a m x u)) slice slice′ memory cache table r
-        → Turns (ends number allowance (shown o (getD (o .board .volatile .controller .registers) 0 0 ∷ [])) o) slice slice′ memory cache table r
-    unfolding shown
-    recover-accepted b t = rw (e, b) t
+    pub recover-refused : eqb (numberOf (v .answer .number)) 0 ≡ false → Turns (ends number allowance [] (outcomeOf (v .answer) m x u)) slice slice′ memory cache table r
+        → Turns (ends number allowance (shownRegister o) o) slice slice′ memory cache table r
+    recover-refused b t = ends-as [] (shownRegister o) (rw b at (shows-as o (e .number) (e .registers))) t
+
+    pub recover-accepted : {z : Option (List ℕ)} → eqb (numberOf (v .answer .number)) 0 ≡ true → registersOf (v .registers) (v .answer .controller .registers) ≡ z
+        → Turns (ends number allowance (registerText z ∷ []) (outcomeOf (v .answer) m x u)) slice slice′ memory cache table r
+        → Turns (ends number allowance (shownRegister o) o) slice slice′ memory cache table r
+    recover-accepted {z} b q t = ends-as (registerText z ∷ []) (shownRegister o) (rw b at (shows-as o (e .number) (sym q ∙ e .registers))) t
 
 pub allowed-as : (number p : ℕ) (held : Held) {slice slice′ memory cache table : List ℕ} (value : List ℕ) {a : Answer} {r : Turn}
     → a ≡ answerOf No.Done 0 (held .controller) → Turns (ends number (Words p) [] (outcomeOf a memory cache table)) slice slice′ memory cache table r

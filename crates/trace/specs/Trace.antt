@@ -2,6 +2,7 @@
 use mathlib.Core.Path.{_≡_}
 use mathlib.Core.Bool.{Bool, true, false, cond}
 use mathlib.Core.List.{List, [], _∷_, _++_}
+use mathlib.Core.Option.{Option, none, some}
 use Prim.Native.Nat.{ℕ, _+_, _≤_}
 use lib.Dec.{eqb}
 use lib.ListN.{getD, replicate}
@@ -11,6 +12,7 @@ use Rattle.rules.specs.declared.Controller.{Controller}
 use Rattle.rules.specs.Board.{Board, sizes, boardOf}
 use Rattle.rules.specs.Numbers.{numberOf}
 use Rattle.rules.specs.Power.{Outcome}
+use Rattle.rules.specs.Starts.{registersGiven}
 use Rattle.rules.specs.Calls.{load, store, begin, step, format, recover}
 use Rattle.lines.specs.Lines.{decimal, hexBytes, line}
 use Rattle.lines.specs.Puts.{Puts}
@@ -55,6 +57,14 @@ numbersOf number outcome = decimal number ∷ (decimal (numberOf (outcome .numbe
 unfoldable pub shown : Outcome → List ℕ → List (List ℕ)
 shown outcome bytes = cond (eqb (numberOf (outcome .number)) 0) (hexBytes bytes ∷ []) []
 
+-- the first register after an accepted recovery, or `--` where there are none (document 02, No. 2)
+unfoldable pub registerText : Option (List ℕ) → List ℕ
+registerText none = 45 ∷ (45 ∷ [])
+registerText (some registers) = hexBytes (getD registers 0 0 ∷ [])
+
+unfoldable pub shownRegister : Outcome → List (List ℕ)
+shownRegister outcome = cond (eqb (numberOf (outcome .number)) 0) (registerText (registersGiven (outcome .gives)) ∷ []) []
+
 -- `bad`
 abbrev pub bad : List ℕ
 bad = 98 ∷ (97 ∷ (100 ∷ []))
@@ -96,7 +106,7 @@ turnedBy bench number value (Allow p) = record {
 }
 turnedBy bench number value Recover =
     let outcome = called 0 (bench .board) (sizes (bench .board)) (recover (sizes (bench .board))) in
-    ends number (bench .allowance) (shown outcome (getD (outcome .board .volatile .controller .registers) 0 0 ∷ [])) outcome
+    ends number (bench .allowance) (shownRegister outcome) outcome
 turnedBy bench number value Bad = record { prints = line (bad ∷ (decimal number ∷ [])); goes = false; bench = bench }
 
 unfoldable pub turned : Bench → ℕ → ℕ → List ℕ → Turned

@@ -1,12 +1,13 @@
 // The lines that fields print (document 01, The bench trace).
 ghost use mathlib.Core.List.{List, [], _∷_, _++_};
+ghost use mathlib.Core.Option.{none};
 ghost use Prim.Native.Nat.{ℕ, _≤_};
 ghost use lib.ListN.{length};
 ghost use Rattle.lines.specs.Lines as L;
 ghost use Rattle.lines.specs.Puts.{Puts};
 ghost use Rattle.rules.specs.Numbers.{numberOf};
 ghost use Rattle.rules.specs.Power.{outcomeOf};
-ghost use Rattle.trace.specs.Trace.{Turns, ends, bad};
+ghost use Rattle.trace.specs.Trace.{Turns, ends, registerText, bad};
 use crate::Allowance;
 use crate::Held;
 use crate::Turn;
@@ -66,6 +67,25 @@ pub fn ended_with(
     let bytes_place = put_byte(line, after_numbers, b' ');
     let after_bytes = put_hex(line, bytes_place, bytes);
     let length = put_byte(line, after_bytes, b'\n');
+    Turn {
+        go: true,
+        held: Held {
+            controller: controller,
+            allowance: allowance,
+        },
+        length: length,
+    }
+}
+
+// The end of an accepted recovery that found no registers.
+pub fn ended_without(answer: Answer, allowance: Allowance, field: u64, line: &mut [u8]) -> Turn
+    requires { ⌜ 640 ≤ length (now line) ⌝ }
+    ensures { λ r. ⌜ ((memory cache table : List ℕ) → Turns (ends field allowance (registerText none ∷ []) (outcomeOf answer memory cache table)) (now (line .entry)) (now (line .exit)) memory cache table r) ⌝ }
+{
+    let controller = answer.controller;
+    let number = answer.number;
+    let after_numbers = put_numbers(line, field, number, answer.words);
+    let length = put_bytes(line, after_numbers, b" --\n");
     Turn {
         go: true,
         held: Held {

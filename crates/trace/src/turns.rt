@@ -11,6 +11,7 @@ use crate::Held;
 use crate::Turn;
 use crate::printing::ended;
 use crate::printing::ended_with;
+use crate::printing::ended_without;
 use crate::printing::put_bad;
 use asking::Asked;
 use asking::store_bytes;
@@ -25,6 +26,7 @@ use lending::store_lent;
 use rules::Answer;
 use rules::Geometry;
 use rules::Number;
+use rules::Registers;
 
 // The words of an allowance; without a field of tag 6 it is unlimited.
 pub fn words_of(allowance: Allowance) -> usize
@@ -238,7 +240,8 @@ pub fn recover_turn(
 {
     let controller = held.controller;
     let allowance = held.allowance;
-    let answer = recover_lent(memory, cache, table, controller);
+    let recovery = recover_lent(memory, cache, table, controller);
+    let answer = recovery.answer;
     let number = answer.number;
     if !accepted(number) {
         return ended(answer, allowance, field, line);
@@ -246,7 +249,11 @@ pub fn recover_turn(
     let opened = answer.controller;
     let registers = opened.registers;
     let first = [registers[0]];
-    ended_with(answer, allowance, field, &first, line)
+    let exist = recovery.registers;
+    match exist {
+        Registers::Saved => ended_with(answer, allowance, field, &first, line),
+        Registers::Absent => ended_without(answer, allowance, field, line),
+    }
 }
 
 // It replaces an allowance that isn't used yet.

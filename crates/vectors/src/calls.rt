@@ -8,6 +8,7 @@ use crate::text::size_at;
 use crate::wiring;
 use board::Answer;
 use board::Controller;
+use board::Registers;
 use checks::numbers::number_of;
 use words::least;
 
@@ -57,6 +58,24 @@ fn begin(
     board::begin(memory, cache, table, controller, &space[0..len], p)
 }
 
+// Whether there are registers, then the answer.
+fn recover(
+    memory: &[u8],
+    cache: &[u8],
+    table: &mut [u64],
+    controller: Controller,
+    line: &[u8],
+) -> Answer {
+    let g = sizes_in(line);
+    let recovery = board::recover(memory, cache, table, controller, g);
+    let registers = recovery.registers;
+    match registers {
+        Registers::Saved => print::text(b" saved,"),
+        Registers::Absent => print::text(b" absent,"),
+    }
+    recovery.answer
+}
+
 pub fn is_call(line: &[u8]) -> bool {
     named(line, b"store")
         || named(line, b"wire")
@@ -88,13 +107,13 @@ pub fn answer_to(
         let p = size_at(line, 2);
         return board::step(memory, cache, table, controller, most, p);
     }
-    let g = sizes_in(line);
     if named(line, b"format") {
+        let g = sizes_in(line);
         let fill = byte_at(line, 3);
         let p = size_at(line, 4);
         return board::format(memory, cache, table, controller, g, fill, p);
     }
-    board::recover(memory, cache, table, controller, g)
+    recover(memory, cache, table, controller, line)
 }
 
 // The number, then the destination, which holds the byte dd before.

@@ -14,18 +14,19 @@ use Rattle.rules.specs.Board.{Board, sizes, phaseOf}
 use Rattle.rules.specs.Numbers.{numberOf, isOff, isWriting, _⇒_}
 use Rattle.rules.specs.Power.{stored}
 use Rattle.rules.specs.Checkpoints.{beginNumber, beginPlan}
-use Rattle.rules.specs.Calls.{Call, load, peek, store, begin, step, format, recover, plan, call}
-use Rattle.rules.specs.PlainMachine.{Picture, Plain, formatted, keptOr, did, finish, hasMark, note}
-use Rattle.rules.specs.Runs.{Event, does, stop, Run, doing, stopping, advance, runs, NoFormat, a-load, a-peek, a-store, a-begin, a-step}
+use Rattle.rules.specs.Calls.{Call, begin, step, plan, call}
+use Rattle.rules.specs.PlainMachine.{Picture, Plain, keptOr, did, finish, hasMark, note}
+use Rattle.rules.specs.Runs.{Event, does, Run, doing, advance, runs, NoFormat, a-load, a-peek, a-store, a-begin, a-step, runFrom}
 use Rattle.rules.proofs.Checked.{common-passed}
 use Rattle.rules.proofs.Answers.{guard-accepted}
-use Rattle.rules.proofs.Invariant.{did-not, note-unmarked}
-use Rattle.rules.proofs.Demand3.{Good, next, call-good, back, stop-good, good-recovers}
+use Rattle.rules.proofs.Invariant.{did-not}
+use Rattle.rules.proofs.Demand3.{Good, next, call-good, good-recovers, formatted-good}
+use Rattle.rules.proofs.NoneFinished.{kept-later}
 use Rattle.wires.specs.Reading.{Gives}
-use Rattle.wires.specs.Promises.{GoesOn, loads, peeks, stores, steps, fails, OnItsWay, NoneFinished, and-call, and-stop, AsBegun}
+use Rattle.wires.specs.Promises.{GoesOn, loads, peeks, stores, steps, fails, OnItsWay, AsBegun}
 use Rattle.wires.specs.Promises as P
 use Rattle.wires.proofs.Unique.{gives-one}
-use Rattle.wires.proofs.Demands.{good-reads, recovers-wires, good-whole, formatted-good}
+use Rattle.wires.proofs.Demands.{good-reads, recovers-wires, good-whole}
 
 -- ---- a picture on its way, or kept
 
@@ -71,20 +72,6 @@ begin-coming : (plain : Plain) (registers : List ℕ) (n : ℕ) → n ≡ 0 → 
 unfolding did
 begin-coming plain registers zero e = on-its-way refl refl
 begin-coming plain registers (suc n) e = absurd (suc-ne-zero n e)
-
--- what is kept changes by the mark alone
-did-kept : (plain : Plain) (c : Call) (n : ℕ) → did plain c n .kept ≡ plain .kept
-unfolding did
-did-kept plain (load block offset len) n = refl
-did-kept plain (peek block) n = refl
-did-kept plain (store block offset bytes) zero = refl
-did-kept plain (store block offset bytes) (suc n) = refl
-did-kept plain (begin registers) zero = refl
-did-kept plain (begin registers) (suc n) = refl
-did-kept plain (step most) n = refl
-did-kept plain (format h fill) n = refl
-did-kept plain (recover h) zero = refl
-did-kept plain (recover h) (suc n) = refl
 
 -- ---- runs
 
@@ -137,30 +124,6 @@ step-finishes blocks g run p most mark s =
           (noted-step blocks g (s .plain) most n words mark (s .held));
     }
 
--- what follows and finishes nothing
-noted-kept : (blocks : ℕ → List ℕ) (g : Geometry) (plain : Plain) (c : Call) (n : ℕ) (words : List Store) → hasMark g words ≡ false → Has blocks plain
-    → Has blocks (note g plain c n words)
-noted-kept blocks g plain c n words unmarked b =
-    ap (λ (z : Plain). z .kept .blocks) (note-unmarked g plain c n words unmarked) ∙ ap (λ (z : Picture). z .blocks) (did-kept plain c n) ∙ b
-
-kept-later : (blocks : ℕ → List ℕ) (g : Geometry) (run : Run) (events : List Event) → NoneFinished g run events → Looks (Has blocks) g run
-    → Looks (Has blocks) g (runs events run)
-unfolding runs advance
-kept-later blocks g run [] P.NoneFinished.no-more s = s
-kept-later blocks g run (does p c ∷ events) (and-call nf unmarked rest) s =
-    let n = numberOf (call p (run .board) c .number) in
-    let words = stored p (plan (run .board) c) in
-    kept-later blocks g (doing p c run) events rest
-    (record {
-      plain = next run (s .plain) p c;
-      good = call-good g p c run (s .plain) nf (s .good);
-      held =
-          subst (λ (h : Geometry). Has blocks (note h (s .plain) c n words)) (sym (s .good .same)) (noted-kept blocks g (s .plain) c n words unmarked (s .held));
-    })
-kept-later blocks g run (stop volatile ∷ events) (and-stop lengths rest) s =
-    kept-later blocks g (stopping volatile run) events rest
-    (record { plain = back (s .plain); good = stop-good g volatile run (s .plain) lengths (s .good); held = s .held })
-
 -- ---- from begin to recovery
 
 -- an accepted begin found the board awake
@@ -172,9 +135,9 @@ begin-awake p board registers e =
 
 pub as-begun : AsBegun
 unfolding AsBegun
-as-begun g fill p before e events allowed q registers begun during goes s most mark later rest volatile lengths t w h r r′ reads reads′ =
-    let first = runs events (record { board = call p before (format g fill) .board; promise = some (formatted fill) }) in
-    let stands = formatted-good g fill p before e events allowed in
+as-begun g from q registers begun during goes s most mark later rest volatile lengths t w h r r′ reads reads′ =
+    let first = runFrom from in
+    let stands = formatted-good g from in
     let live = stands .plain .live in
     let c = begin registers in
     let coming : Looks (Coming live) g (doing q c first) =
@@ -187,8 +150,9 @@ as-begun g fill p before e events allowed q registers begun during goes s most m
     } in
     let last = runs during (doing q c first) in
     let end = runs later (doing s (step most) last) in
-    let kept = kept-later live g (doing s (step most) last) later rest (step-finishes live g last s most mark (coming-goes live g (doing q c first) during goes coming)) in
+    let marked = step-finishes live g last s most mark (coming-goes live g (doing q c first) during goes coming) in
+    let kept = kept-later (marked .plain .kept) g (doing s (step most) last) later rest (record { plain = marked .plain; good = marked .good; kept = refl }) in
     let wires = recovers-wires g (kept .plain .kept) (end .board .memory) (good-whole g end (kept .plain) (kept .good)) (good-recovers g end (kept .plain) (kept .good)) in
     gives-one (live w) r′ r
-    (subst (λ (z : ℕ → List ℕ). Gives (z w) r′) (kept .held) (wires .each volatile lengths t w h r′ reads′))
+    (subst (λ (z : ℕ → List ℕ). Gives (z w) r′) (ap (λ (z : Picture). z .blocks) (kept .kept) ∙ marked .held) (wires .each volatile lengths t w h r′ reads′))
     (good-reads g first (stands .plain) (stands .good) w r (begin-awake q (first .board) registers begun) h reads)

@@ -20,16 +20,15 @@ use Rattle.rules.specs.Power.{stored}
 use Rattle.rules.specs.Loads.{seen}
 use Rattle.rules.specs.Stores.{replaced, stores, moveIn, slotFor, full, storeNumber, movedTo, storePlan}
 use Rattle.rules.specs.Calls.{Call, load, peek, store, begin, step, format, recover, plan, call}
-use Rattle.rules.specs.PlainMachine.{Picture, Plain, formatted, overlaid, laidOver, update, did, finish, hasMark, note}
-use Rattle.rules.specs.Runs.{Event, does, Run, afterFormat, fromSome, promised, doing, advance, runs, NoFormat, a-load, a-peek, a-store, a-begin, a-step, a-recover, AllAllowed}
+use Rattle.rules.specs.PlainMachine.{Picture, Plain, overlaid, laidOver, update, did, finish, hasMark, note}
+use Rattle.rules.specs.Runs.{Event, does, Run, afterFormat, fromSome, promised, doing, advance, runs, NoFormat, a-load, a-peek, a-store, a-begin, a-step, a-recover, runFrom}
 use Rattle.rules.specs.Promises.{RecoversTo, Demand3}
 use Rattle.rules.proofs.Clashes.{none-some}
 use Rattle.rules.proofs.Checked.{passed, common-passed, in-range}
 use Rattle.rules.proofs.Answers.{refused, guard-accepted}
 use Rattle.rules.proofs.Invariant.{Inv, did-not}
 use Rattle.rules.proofs.LiveShown.{inv-shows, load-accepted, live-whole, kept-whole}
-use Rattle.rules.proofs.Started.{format-inv}
-use Rattle.rules.proofs.Demand3.{Good, next, call-good, Standing, runs-good, demand-3}
+use Rattle.rules.proofs.Demand3.{Good, next, call-good, formatted-good, demand-3}
 use Rattle.rules.proofs.Demand2.{Stands, unpromised, standing-by, runs-stand}
 use Rattle.records.specs.declared.Wire.{Wire}
 use Rattle.records.specs.declared.Found.the-variants.{Says}
@@ -238,24 +237,16 @@ recovers-wires g picture memory size v = record {
 pub good-whole : (g : Geometry) (run : Run) (plain : Plain) → Good g run plain → (w : ℕ) → w < g .blocks → length (plain .kept .blocks w) ≡ 64
 good-whole g run plain v w h = kept-whole (run .board) plain (v .inv) w (subst (λ (z : Geometry). w < z .blocks) (sym (v .same)) h)
 
--- after a format and any allowed events the board looks like the plain machine that is promised
-pub formatted-good : (g : Geometry) (fill p : ℕ) (before : Board) → numberOf (call p before (format g fill) .number) ≡ 0 → (events : List Event) → AllAllowed g events
-    → Standing g (runs events (record { board = call p before (format g fill) .board; promise = some (formatted fill) }))
-formatted-good g fill p before e events allowed =
-    let i = format-inv g fill p before e in
-    runs-good g events (record { board = call p before (format g fill) .board; promise = some (formatted fill) }) allowed
-    (record { plain = formatted fill; good = record { stands = refl; inv = i .0; same = i .1 } })
-
 -- there is one promise
 same-promise : {promise : Option Plain} {one two : Plain} → promise ≡ some one → promise ≡ some two → one ≡ two
 same-promise {promise} {one} {two} a b = let e : some one ≡ some two = sym a ∙ b in cc
 
 pub recovered-reads : RecoveredReads
 unfolding RecoveredReads Demand3
-recovered-reads g fill p before e events allowed plain stands c nf q =
-    let run = runs events (record { board = call p before (format g fill) .board; promise = some (formatted fill) }) in
-    let s = demand-3 g fill p before e events allowed in
-    let t = formatted-good g fill p before e events allowed in
+recovered-reads g from plain stands c nf q =
+    let run = runFrom from in
+    let s = demand-3 g from in
+    let t = formatted-good g from in
     let n = numberOf (call q (run .board) c .number) in
     let words = stored q (plan (run .board) c) in
     let v : Good g run plain = subst (Good g run) (same-promise (t .good .stands) stands) (t .good) in

@@ -10,9 +10,9 @@ use Rattle.rules.specs.declared.Geometry.{Geometry}
 use Rattle.rules.specs.Board.{Board, Volatile, sizes, phaseOf}
 use Rattle.rules.specs.Numbers.{numberOf, isOff}
 use Rattle.rules.specs.Power.{stored}
-use Rattle.rules.specs.Calls.{Call, load, peek, store, begin, step, format, recover, plan, call}
-use Rattle.rules.specs.PlainMachine.{Picture, Plain, formatted, hasMark, note}
-use Rattle.rules.specs.Runs.{Event, does, stop, Run, doing, stopping, runs, Lengths, NoFormat, AllAllowed}
+use Rattle.rules.specs.Calls.{Call, load, peek, store, begin, step, recover, plan, call}
+use Rattle.rules.specs.PlainMachine.{Picture, Plain, hasMark, note}
+use Rattle.rules.specs.Runs.{Event, does, Run, doing, runs, Lengths, NoFormat, FromFormat, runFrom, NoneFinished}
 use Rattle.records.specs.declared.Wire.{Wire}
 use Rattle.records.specs.declared.Found.the-variants.{Says}
 use Rattle.wires.specs.declared.Reading.{Reading}
@@ -90,11 +90,8 @@ pub record WiresIn (g : Geometry) (picture : Picture) (memory : List ℕ) : Type
 -- calls). A recovery then gives the wires of what is kept: the live blocks when the last finished checkpoint was begun.
 unfoldable pub RecoveredReads : Type 0
 RecoveredReads =
-    (g : Geometry) (fill p : ℕ) (before : Board)
-    → numberOf (call p before (format g fill) .number) ≡ 0
-    → (events : List Event)
-    → AllAllowed g events
-    → let run = runs events (record { board = call p before (format g fill) .board; promise = some (formatted fill) }) in
+    (g : Geometry) (from : FromFormat g)
+    → let run = runFrom from in
     (plain : Plain)
     → run .promise ≡ some plain
     → (c : Call)
@@ -122,30 +119,12 @@ pub data OnItsWay : Run → List Event → Type 0 where
       → OnItsWay (doing p c run) events
       → OnItsWay run (does p c ∷ events)
 
--- a run goes on by allowed events, none of which finishes a checkpoint
-pub data NoneFinished (g : Geometry) : Run → List Event → Type 0 where
-  no-more : {run : Run} → NoneFinished g run []
-  and-call :
-      {run : Run} {p : ℕ} {c : Call} {events : List Event}
-      → NoFormat c
-      → hasMark g (stored p (plan (run .board) c)) ≡ false
-      → NoneFinished g (doing p c run) events
-      → NoneFinished g run (does p c ∷ events)
-  and-stop :
-      {run : Run} {volatile : Volatile} {events : List Event}
-      → Lengths g volatile
-      → NoneFinished g (stopping volatile run) events
-      → NoneFinished g run (stop volatile ∷ events)
-
 -- a checkpoint is begun, goes on its way and is finished by a step that stores the mark; whatever follows finishes no other.
 -- After a loss of supply and the recovery, each wire reads as it read when that checkpoint was begun.
 unfoldable pub AsBegun : Type 0
 AsBegun =
-    (g : Geometry) (fill p : ℕ) (before : Board)
-    → numberOf (call p before (format g fill) .number) ≡ 0
-    → (events : List Event)
-    → AllAllowed g events
-    → let first = runs events (record { board = call p before (format g fill) .board; promise = some (formatted fill) }) in
+    (g : Geometry) (from : FromFormat g)
+    → let first = runFrom from in
     (q : ℕ) (registers : List ℕ)
     → numberOf (call q (first .board) (begin registers) .number) ≡ 0
     → (during : List Event)

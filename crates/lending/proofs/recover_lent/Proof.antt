@@ -2,7 +2,7 @@ use Rattle.lending.proofs.Sizes.{from-first}
 use mathlib.Core.Path.{refl}
 use denote.Ref.{now}
 use Rattle.rules.specs.Calls.{recover}
-use Rattle.lending.proofs.Lent.{lent-done, stays}
+use Rattle.lending.proofs.Lent.{lent-recovered, stays}
 use borrow.Author.Needs.{needs}
 use Rattle.lending.proofs.recover_lent.Statement.{statement}
 use Rattle.lending.proofs.recover_lent.Tie as tie
@@ -67,7 +67,7 @@ same-length c = search needs
 returns : tie.Need-returns
 returns c =
     let a = c .before .before .before .before .before .before .before .before .before .before .before .before .before .args in
-    lent-done 0 (now (a .memory)) (now (a .cache)) (now (a .table)) (a .controller) (a .controller .geometry) (from-first (c .before .before .before .before .before .before .before .before .lent-memory .ensures .0)) (from-first (c .before .before .before .before .before .before .before .lent-cache .ensures .0)) (from-first (c .before .before .before .before .before .before .lent-table .ensures .0)) (recover (a .controller .geometry)) (c .before .before .recover .ensures 0) (stays (c .before .before .before .before .before .before .before .before .lent-memory .result) _) (stays (c .before .before .before .before .before .before .before .lent-cache .result) _) refl
+    lent-recovered 0 (now (a .memory)) (now (a .cache)) (now (a .table)) (a .controller) (a .controller .geometry) (from-first (c .before .before .before .before .before .before .before .before .lent-memory .ensures .0)) (from-first (c .before .before .before .before .before .before .before .lent-cache .ensures .0)) (from-first (c .before .before .before .before .before .before .lent-table .ensures .0)) (recover (a .controller .geometry)) (c .before .before .recover .ensures 0) (stays (c .before .before .before .before .before .before .before .before .lent-memory .result) _) (stays (c .before .before .before .before .before .before .before .lent-cache .result) _) refl
 
 pub recover-lent-spec : {M : Type 1} → statement M
 recover-lent-spec =

@@ -76,8 +76,8 @@ clear-table-requires : tie.Need-clear-table-requires
 clear-table-requires c κs = search needs
 
 -- src/lib.rt:51:9
-formatted-requires : tie.Need-formatted-requires
-formatted-requires c κs = search needs
+started-requires : tie.Need-started-requires
+started-requires c κs = search needs
 
 -- src/lib.rt:52:5
 reply-requires-2 : tie.Need-reply-requires-2
@@ -100,7 +100,7 @@ returns-3 c =
     let w = c .before .before .before .before .before .before .before .before .before .before .before .format-words in
     format-whole (a .p) (now (a .memory)) (now (a .cache)) (now (a .table)) (a .controller) (a .g) (a .fill) _ e
     (passes _ (c .before .before .before .before .before .before .before .before .before .before .before .before .before .accepted .ensures) (c .before .before .before .before .before .before .before .before .before .before .before .before .if1 .left)) (c .before .before .before .before .before .before .before .before .before .lay-format .ensures) (w .ensures (a .fill))
-    (c .before .before .before .before .before .before .if2 .left) (c .before .before .before .before .clear-table .ensures ∙ ap (λ (count : ℕ). replicate count 0) (l .table)) (c .reply2 .ensures ∙ ap (answerOf No.Done (w .result)) (c .before .formatted .ensures))
+    (c .before .before .before .before .before .before .if2 .left) (c .before .before .before .before .clear-table .ensures ∙ ap (λ (count : ℕ). replicate count 0) (l .table)) (c .reply2 .ensures ∙ ap (answerOf No.Done (w .result)) (c .before .started .ensures))
 
 pub format-spec : {M : Type 1} → statement M
 format-spec =
@@ -120,7 +120,7 @@ format-spec =
     same-length-4
     returns-2
     clear-table-requires
-    formatted-requires
+    started-requires
     reply-requires-2
     same-length-5
     same-length-6

@@ -2,7 +2,7 @@ use mathlib.Core.Path.{refl}
 use native.Mathlib.Omega.{arith}
 use Rattle.rules.specs.declared.State.the-variants.{Clean, PreHidden}
 use Rattle.rules.specs.Checkpoints.{saved}
-use Rattle.checkpoints.proofs.Words.{made-clean, made-free, not-saved}
+use Rattle.copies.proofs.Words.{made-clean, made-free, not-saved}
 use borrow.Author.Needs.{needs}
 use Rattle.checkpoints.proofs.backups.saved_word.Statement.{statement}
 use Rattle.checkpoints.proofs.backups.saved_word.Tie as tie

@@ -1,5 +1,5 @@
 use Rattle.stores.proofs.Placed.{inside, placed, not-placed}
-use Rattle.stores.specs.Moves.{spotOf}
+use Rattle.stores.specs.Spots.{spotOf}
 use Rattle.rules.specs.Board.{boardOf}
 use denote.Ref.{now}
 use native.Mathlib.Omega.{arith}
