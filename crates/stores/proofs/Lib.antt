@@ -1,4 +1,2 @@
-pub mod Built
-pub mod Placed
 pub mod Planned
 pub mod Unique

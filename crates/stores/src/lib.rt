@@ -7,20 +7,17 @@ ghost use Rattle.rules.specs.Power.{outcomeOf};
 ghost use Rattle.rules.specs.Stores as S;
 ghost use Rattle.rules.specs.Calls as C;
 ghost use Rattle.checks.specs.Tables.{Formed};
-use building::built;
 use checks::answers::refused;
 use checks::numbers::accepted;
 use checks::table::FreeSlot;
 use checks::table::seat_for;
 use loads::load_number;
 use moves::move_for;
+use placing::spot_of;
 use placing::store_at;
 use rules::Answer;
 use rules::Controller;
 use rules::Number;
-
-pub mod building;
-pub mod placing;
 
 // The table is walked for its words' form, then for the block's entry and, where it has none, for a free slot.
 pub fn store(
@@ -57,7 +54,7 @@ pub fn store(
     };
     let found = seat.found;
     let next = move_for(phase, found);
-    let fresh = built(memory, cache, g, block, found, offset, bytes);
+    let from = spot_of(g, block, found);
     store_at(
         memory,
         cache,
@@ -65,7 +62,9 @@ pub fn store(
         controller,
         block,
         slot,
-        &fresh,
+        from,
+        offset,
+        bytes,
         next,
         p,
     )

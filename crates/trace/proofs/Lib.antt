@@ -1,4 +1,3 @@
 pub mod Lines
 pub mod Turned
 pub mod Unique
-pub mod Example

@@ -1,0 +1,57 @@
+-- The new block of a store at its spot: from the visible block, or from the bytes alone.
+use mathlib.Core.Path.{_≡_, refl, sym, ap, _∙_, subst}
+use mathlib.Core.List.{List, [], append-nil}
+use Prim.Native.Nat.{ℕ, _+_, _*_, _≤_, _<_, min}
+use native.Mathlib.Omega.{arith}
+use lib.ListN.{length, drop, drop-of-length-le}
+use Rattle.words.specs.Words.{Store, lay, bytesTo, Lays}
+use Rattle.words.proofs.Makers.{take-bytesTo}
+use Rattle.words.proofs.Blocks.{length-block}
+use Rattle.rules.specs.declared.Geometry.{Geometry}
+use Rattle.rules.specs.declared.State.{State}
+use Rattle.rules.specs.declared.Lookup.{Lookup}
+use Rattle.rules.specs.declared.Lookup.the-variants.{Entry, Nothing}
+use Rattle.rules.specs.Loads.{Spot, inMemory, inCache, shows, spotIn, spotOf, blockIn}
+use Rattle.rules.specs.Stores.{replaced}
+use Rattle.placing.specs.Spots.{Fits}
+use Rattle.placing.proofs.Placed.{Inside, spot-inside}
+
+-- ---- 64 bytes are the new block, whatever the visible one is
+
+spot-length : (memory cache : List ℕ) (spot : Spot) → Fits memory cache spot → length (blockIn memory cache spot) ≡ 64
+unfolding blockIn
+spot-length memory cache (inMemory q) f = length-block memory q f
+spot-length memory cache (inCache q) f = length-block cache q f
+
+all-replaced : (block bytes : List ℕ) (offset : ℕ) → offset ≡ 0 → length bytes ≡ 64 → length block ≡ 64 → bytes ≡ replaced block offset bytes
+unfolding replaced
+all-replaced block bytes offset e b l =
+    let none : drop (0 + length bytes) block ≡ [] = drop-of-length-le block {i = 0 + length bytes} (omega arith) in
+    rw (e, none) (sym (append-nil bytes))
+
+pub whole-lays : (memory cache : List ℕ) (spot : Spot) (place offset : ℕ) (bytes : List ℕ) {part part′ : List ℕ} {r : ℕ}
+    → Fits memory cache spot → length bytes ≡ 64 → offset + length bytes ≤ 64
+    → Lays 8 (bytesTo place 8 bytes) part part′ r → Lays 8 (bytesTo place 8 (replaced (blockIn memory cache spot) offset bytes)) part part′ r
+whole-lays memory cache spot place offset bytes {part} {part′} {r} f b h l =
+    subst (λ (z : List ℕ). Lays 8 (bytesTo place 8 z) part part′ r) (all-replaced (blockIn memory cache spot) bytes offset (omega arith) b (spot-length memory cache spot f)) l
+
+-- an allowance of 8 words is as good as any above
+pub lays-any : (p place : ℕ) (fresh : List ℕ) {part part′ : List ℕ} {r : ℕ} → 8 ≤ p → Lays 8 (bytesTo place 8 fresh) part part′ r → Lays p (bytesTo place 8 fresh) part part′ r
+lays-any p place fresh {part} h l =
+    let e : min 8 8 ≡ min p 8 = omega arith in
+    record {
+      words = l .words;
+      bytes = l .bytes
+          ∙ ap (λ (z : List Store). lay z part) (take-bytesTo 8 8 place fresh ∙ ap (λ (z : ℕ). bytesTo place z fresh) e ∙ sym (take-bytesTo 8 p place fresh));
+    }
+
+-- ---- the visible block lies inside
+
+pub inside-fits : (g : Geometry) (memory cache : List ℕ) (spot : Spot) → 64 * (g .blocks + g .slots) ≤ length memory → 64 * g .slots ≤ length cache → Inside g spot → Fits memory cache spot
+inside-fits g memory cache (inMemory q) m c i = omega arith
+inside-fits g memory cache (inCache q) m c i = omega arith
+
+pub visible-inside : (g : Geometry) (block : ℕ) (found : Lookup) → block < g .blocks → ((slot : ℕ) (state : State) → found ≡ Entry slot state → slot < g .slots) → Inside g (spotOf g block found)
+unfolding spotOf spotIn
+visible-inside g block Nothing b s = omega arith
+visible-inside g block (Entry slot state) b s = spot-inside g block slot (shows state) b (s slot state refl)
