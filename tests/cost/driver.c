@@ -1,4 +1,4 @@
-// Repeats one call on a prepared board, as the program cost does; linked with plain.c or floor.c. tests/cost/measure says how.
+// Repeats one call on a prepared board, as the program cost does; linked with plain.c, floor.c or door.c. tests/cost/measure says how.
 #include "plain.h"
 
 enum { TRIAL_BYTES = 14 };

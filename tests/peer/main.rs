@@ -1,13 +1,19 @@
-// The independent peer of the board: its modes, and the comparison with a program.
+// The independent peer of the board and of its door: its modes, and the comparison with a program.
 #![forbid(unsafe_code)]
 
 mod board;
+mod calls;
 #[cfg(test)]
 mod cases;
 mod damage;
+mod door;
+#[cfg(test)]
+mod door_cases;
+mod fuzz;
 mod make;
 mod parts;
 mod random;
+mod spoil;
 mod trace;
 mod wrong;
 
@@ -15,14 +21,17 @@ use std::io::{self, BufRead, BufReader, BufWriter, Read, Write};
 use std::process::{Child, Command, ExitCode, Stdio};
 
 const USAGE: &str = "usage: peer bench | batch | make SEED COUNT | compare SEED COUNT COMMAND.. | single SEED COUNT COMMAND.. | wrong
-  bench    a trace on standard input, its lines out
-  batch    frames on standard input (a trace's length in 4 bytes, big-endian, then the trace); after each one's lines a line '.'
-  make     writes COUNT frames
-  compare  gives COUNT frames to one run of COMMAND, which works as batch does
-  single   gives COUNT traces to a run of COMMAND each, which works as bench does
-  wrong    the ten wrong peers must each be found out";
+            | fuzz SEED RUNS COMMAND.. | wrong-doors
+  bench        a trace on standard input, its lines out
+  batch        frames on standard input (a trace's length in 4 bytes, big-endian, then the trace); after each one's lines a line '.'
+  make         writes COUNT frames
+  compare      gives COUNT frames to one run of COMMAND, which works as batch does
+  single       gives COUNT traces to a run of COMMAND each, which works as bench does
+  wrong        the ten wrong boards must each be found out
+  fuzz         gives the cases of RUNS runs to one run of COMMAND, which works as tests/door/fuzz.c does
+  wrong-doors  the twenty wrong doors must each be found out";
 
-/// The frames of `peer wrong`.
+/// The frames of `peer wrong`, and the runs of `peer wrong-doors`.
 const WRONG_SEED: u64 = 1;
 const WRONG_COUNT: u64 = 3000;
 
@@ -46,13 +55,16 @@ fn mode(words: &[&str]) -> io::Result<bool> {
         ["make", seed, count] => write_frames(&mut BufWriter::new(io::stdout()), number(seed)?, number(count)?),
         ["compare", seed, count, program, ref args @ ..] => compare(number(seed)?, number(count)?, program, args),
         ["single", seed, count, program, ref args @ ..] => single(number(seed)?, number(count)?, program, args),
-        ["wrong"] => {
-            let (lines, all) = wrong::report(WRONG_SEED, WRONG_COUNT);
-            io::stdout().write_all(lines.as_bytes())?;
-            Ok(all)
-        }
+        ["wrong"] => report(wrong::report(WRONG_SEED, WRONG_COUNT)),
+        ["fuzz", seed, runs, program, ref args @ ..] => fuzz::compare(number(seed)?, number(runs)?, program, args),
+        ["wrong-doors"] => report(wrong::report_doors(WRONG_SEED, WRONG_COUNT)),
         _ => Err(io::Error::other(USAGE)),
     }
+}
+
+fn report((lines, all): (String, bool)) -> io::Result<bool> {
+    io::stdout().write_all(lines.as_bytes())?;
+    Ok(all)
 }
 
 fn number(word: &str) -> io::Result<u64> {

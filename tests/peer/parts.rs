@@ -17,6 +17,8 @@ pub enum Number {
     Idle = 9,
     NoCheckpoint = 10,
     Backup = 11,
+    /// The door's (document 02, No. 4).
+    RecordBytes = 12,
     Cut = 20,
 }
 

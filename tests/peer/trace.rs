@@ -131,7 +131,7 @@ pub fn field(tag: u8, value: &[u8]) -> Vec<u8> {
     [&[tag], &two(value.len())[..], value].concat()
 }
 
-fn hex(bytes: &[u8]) -> String {
+pub fn hex(bytes: &[u8]) -> String {
     bytes.iter().map(|byte| format!("{byte:02x}")).collect()
 }
 

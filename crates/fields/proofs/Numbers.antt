@@ -33,3 +33,8 @@ number-of-bytes (suc n) x h =
 -- the two bytes at a place
 pub two-at : (bytes : List ℕ) (start : ℕ) → start + 2 ≤ length bytes → take 2 (drop start bytes) ≡ getD bytes start 0 ∷ (getD bytes (start + 1) 0 ∷ [])
 two-at bytes start h = rw (add-one, drop-cons bytes start 0 (omega arith), drop-cons bytes (suc start) 0 (omega arith))
+
+-- the two bytes of a number
+pub two-bytes : (number : ℕ) → number < 65536 → (number / 256) ∷ ((number % 256) ∷ []) ≡ bigEndian 2 number
+unfolding bigEndian
+two-bytes number h = let e : number / 256 ≡ number / 256 % 256 = omega arith in ap (λ (high : ℕ). high ∷ ((number % 256) ∷ [])) e

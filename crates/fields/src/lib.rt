@@ -47,3 +47,12 @@ pub fn put_field(into: &mut [u8], start: usize, tag: u8, value: &[u8]) -> usize
     let value_place = put_number2(into, size_place, value.len());
     put_bytes(into, value_place, value)
 }
+
+// A field whose value is a two-byte number.
+pub fn put_number_field(into: &mut [u8], start: usize, tag: u8, number: u16) -> usize
+    requires { ⌜ start + 5 ≤ length (now into) ⌝ }
+    ensures { λ r. ⌜ Puts (field tag (bigEndian 2 number)) start (now (into .entry)) (now (into .exit)) r ⌝ }
+{
+    let value = [(number / 256) as u8, (number % 256) as u8];
+    put_field(into, start, tag, &value)
+}

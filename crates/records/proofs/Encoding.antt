@@ -20,11 +20,6 @@ use Rattle.records.specs.Supposed.{testAt, supposed}
 
 -- ---- what the code lays
 
--- the current's two bytes
-pub current-bytes : (current : ℕ) → current < 65536 → (current / 256) ∷ ((current % 256) ∷ []) ≡ bigEndian 2 current
-unfolding bigEndian
-current-bytes current h = let e : current / 256 ≡ current / 256 % 256 = omega arith in ap (λ (high : ℕ). high ∷ ((current % 256) ∷ [])) e
-
 drop-replicate : (n r x : ℕ) → drop r (replicate n x) ≡ replicate (n - r) x
 drop-replicate n zero x = let e : n ≡ n - 0 = omega arith in ap (λ (k : ℕ). replicate k x) e
 drop-replicate zero (suc r) x = let e : 0 ≡ 0 - suc r = omega arith in ap (λ (k : ℕ). replicate k x) e

@@ -4,13 +4,14 @@ ghost use mathlib.Core.Bool.{true};
 ghost use mathlib.Core.Logic.{_↔_};
 ghost use Prim.Native.Nat.{_+_, _≤_};
 ghost use lib.ListN.{length};
-ghost use Rattle.fields.specs.Fields.{field, fieldsOf, bigEndian};
+ghost use Rattle.fields.specs.Fields.{field, fieldsOf};
 ghost use Rattle.lines.specs.Puts.{Puts};
 ghost use Rattle.records.specs.Records as R;
 ghost use Rattle.records.specs.Reading.{Reads};
 ghost use Rattle.records.specs.Supposed as S;
 use classes::class_of;
 use fields::put_field;
+use fields::put_number_field;
 use fields::short_of;
 use words::same_bytes;
 
@@ -51,14 +52,6 @@ pub enum Found {
     NoRecord,
 }
 
-fn put_current(into: &mut [u8], start: usize, tag: u8, current: u16) -> usize
-    requires { ⌜ start + 5 ≤ length (now into) ⌝ }
-    ensures { λ r. ⌜ Puts (field tag (bigEndian 2 current)) start (now (into .entry)) (now (into .exit)) r ⌝ }
-{
-    let value = [(current / 256) as u8, (current % 256) as u8];
-    put_field(into, start, tag, &value)
-}
-
 fn put_flag(into: &mut [u8], start: usize, tag: u8, flag: bool) -> usize
     requires { ⌜ start + 4 ≤ length (now into) ⌝ }
     ensures { λ r. ⌜ Puts (field tag (R.flag flag)) start (now (into .entry)) (now (into .exit)) r ⌝ }
@@ -71,7 +64,7 @@ fn put_fields(into: &mut [u8], says: Record) -> usize
     requires { ⌜ 13 ≤ length (now into) ⌝ }
     ensures { λ r. ⌜ Puts (fieldsOf (R.fieldsIn says)) 0 (now (into .entry)) (now (into .exit)) r ⌝ }
 {
-    let latch_place = put_current(into, 0, 1, says.current);
+    let latch_place = put_number_field(into, 0, 1, says.current);
     let test_place = put_flag(into, latch_place, 2, says.latch);
     let tested = says.test;
     match tested {

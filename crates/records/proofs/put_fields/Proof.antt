@@ -7,14 +7,14 @@ use Rattle.records.proofs.put_fields.Statement.{statement}
 use Rattle.records.proofs.put_fields.Tie as tie
 
 -- src/records.rt:41:9
-put-current-requires : tie.Need-put-current-requires
-put-current-requires c κs = search needs
+put-number-field-requires : tie.Need-put-number-field-requires
+put-number-field-requires c κs = search needs
 
 -- src/records.rt:42:9
 put-flag-requires : tie.Need-put-flag-requires
 unfolding field bigEndian
 put-flag-requires c κs =
-    let p = c .before .before .before .put-current .ensures .after in
+    let p = c .before .before .before .put-number-field .ensures .after in
     omega (arith, p)
 
 -- src/records.rt:45:28
@@ -29,7 +29,7 @@ enum-known-tested c = search needs
 put-flag-requires-2 : tie.Need-put-flag-requires-2
 unfolding field bigEndian flag
 put-flag-requires-2 c κs =
-    let p = c .before .before .before .before .before .before .before .before .before .before .put-current .ensures .after in
+    let p = c .before .before .before .before .before .before .before .before .before .before .put-number-field .ensures .after in
     let q = c .before .before .before .before .before .before .put-flag .ensures .after in
     omega (arith, p, q)
 
@@ -40,7 +40,7 @@ same-length c = search needs
 -- src/records.rt:37:1
 returns : tie.Need-returns
 unfolding fieldsIn perhaps flag fieldsOf field bigEndian
-returns c = rw (c .enum-told .given .1) (puts-then (c .before .before .before .before .before .before .before .before .put-current .ensures) (c .before .before .before .before .put-flag .ensures))
+returns c = rw (c .enum-told .given .1) (puts-then (c .before .before .before .before .before .before .before .before .put-number-field .ensures) (c .before .before .before .before .put-flag .ensures))
 
 -- src/records.rt:37:1
 same-length-2 : tie.Need-same-length-2
@@ -49,13 +49,13 @@ same-length-2 c = search needs
 -- src/records.rt:37:1
 returns-2 : tie.Need-returns-2
 unfolding fieldsIn perhaps flag fieldsOf field bigEndian
-returns-2 c = rw (c .before .before .before .before .before .tested .given .1) (puts-then (puts-then (c .before .before .before .before .before .before .before .before .before .before .before .before .before .put-current .ensures) (c .before .before .before .before .before .before .before .before .before .put-flag .ensures)) (c .before .before .put-flag2 .ensures))
+returns-2 c = rw (c .before .before .before .before .before .tested .given .1) (puts-then (puts-then (c .before .before .before .before .before .before .before .before .before .before .before .before .before .put-number-field .ensures) (c .before .before .before .before .before .before .before .before .before .put-flag .ensures)) (c .before .before .put-flag2 .ensures))
 
 pub put-fields-spec : {M : Type 1} → statement M
 put-fields-spec =
     tie.close
     (tie.spec
-    put-current-requires
+    put-number-field-requires
     put-flag-requires
     enum-told
     enum-known-tested

@@ -1,0 +1,3 @@
+pub mod WordBytes
+pub mod Parts
+pub mod Inverse

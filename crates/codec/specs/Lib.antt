@@ -1,0 +1,4 @@
+pub mod Encoding
+pub mod Supposed
+pub mod Places
+pub mod Promises

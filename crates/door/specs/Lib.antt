@@ -1,0 +1,3 @@
+pub mod Doors
+pub mod Answers
+pub mod Promises
