@@ -20,7 +20,7 @@ use rules::Answer;
 use rules::Registers;
 use tabled::changes;
 
-pub mod early;
+mod early;
 
 // What a call tells C: the number returned, and the words stored.
 #[repr(C)]
