@@ -1,4 +1,4 @@
-// The calls of document 01 in plain C, as a measure for the cost of the Rattle calls.
+// The calls of document 01 in plain C (a store by document 02, No. 5), as a measure for the cost of the Rattle calls.
 #include "plain.h"
 
 _Static_assert(__BYTE_ORDER__ == __ORDER_LITTLE_ENDIAN__, "words of the memory are read and written as the machine's own numbers");
@@ -241,10 +241,16 @@ struct answer board_store(const struct lent *lent, struct record *record, size_t
     memcpy(fresh, block_at(lent, sizes, shows[state], block, slot), BLOCK);
     memcpy(fresh + offset, bytes, length);
     uint8_t *to = block_at(lent, sizes, move.place, block, slot);
+    size_t first = 0;
+    size_t count = BLOCK_WORDS;
+    if (record->phase == PHASE_RUNNING && (state == DIRTY || state == HIDDEN)) {
+        first = offset / WORD;
+        count = (offset + length + WORD - 1) / WORD - first;
+    }
     size_t left = p;
     if (move.place == CACHE)
         memcpy(to, fresh, BLOCK);
-    else if (!lay_bytes(to, fresh, BLOCK_WORDS, &left))
+    else if (!lay_bytes(to + WORD * first, fresh + WORD * first, count, &left))
         return cut(record, p);
     lent->table[slot] = entry(block, move.state);
     return done(p - left);

@@ -168,13 +168,34 @@ impl Board<'_> {
             new = [0; BLOCK];
         }
         new[offset..offset + bytes.len()].copy_from_slice(bytes);
-        match place {
-            Place::Home => plan.list.extend(words_at(self.record.sizes.home(block), &new)),
-            Place::Checkpoint => plan.list.extend(words_at(self.record.sizes.checkpoint(slot), &new)),
-            Place::Cache => plan.cache[BLOCK * slot..BLOCK * (slot + 1)].copy_from_slice(&new),
-        }
+        let start = match place {
+            Place::Home => self.record.sizes.home(block),
+            Place::Checkpoint => self.record.sizes.checkpoint(slot),
+            Place::Cache => {
+                plan.cache[BLOCK * slot..BLOCK * (slot + 1)].copy_from_slice(&new);
+                plan.table[slot] = next.word(block);
+                return Ok(plan);
+            }
+        };
+        let short = self.stores_short(state, next);
+        let end = offset + bytes.len() + usize::from(self.falls(Trap::OneWordMore));
+        let touched = |place: usize| offset < WORD * (place - start + 1) && WORD * (place - start) < end;
+        plan.list.extend(words_at(start, &new).filter(|&(place, _)| !short || touched(place)));
         plan.table[slot] = next.word(block);
         Ok(plan)
+    }
+
+    /// Whether a store to the nonvolatile memory stores only the words that its bytes touch (document 02, No. 5).
+    fn stores_short(&self, found: Option<State>, next: State) -> bool {
+        if self.falls(Trap::AlwaysEight) {
+            return false;
+        }
+        let decides = if self.falls(Trap::StateAfter) { Some(next) } else { found };
+        match decides {
+            Some(State::Dirty | State::Hidden) => true,
+            Some(State::PreHidden) => self.falls(Trap::PreHiddenShort),
+            _ => false,
+        }
     }
 
     fn plan_begin(&self, registers: &[u8]) -> Result<Plan, Number> {

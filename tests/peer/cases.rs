@@ -1,4 +1,5 @@
-// The peer's own tests: document 01's example, its lettered cases, the registers or none of document 02, and the numbers that no trace can reach.
+// The peer's own tests: document 01's example, its lettered cases, the registers or none and the short stores of document 02, and the numbers that
+// no trace can reach.
 use crate::board::{Answer, Board};
 use crate::parts::{Backup, Number, Phase, Record, Sizes, BLOCK};
 use crate::{make, trace};
@@ -240,6 +241,37 @@ fn a_cut_stores_the_front_of_the_list() {
     assert_eq!(answer, Answer { number: Number::Cut, words: 3 });
     let mut after = before;
     after.memory[128..152].fill(5);
+    after.record.phase = Phase::Off;
+    assert_eq!(lent, after);
+}
+
+#[test]
+fn a_store_that_finds_dirty_or_hidden_stores_the_words_that_its_bytes_touch() {
+    let mut lent = Lent::formatted(2, 1);
+    assert_eq!(lent.store(1, 7, 2), done(8));
+    let ranges = [((0, 1), 1), ((7, 1), 1), ((7, 2), 2), ((8, 8), 1), ((8, 9), 2), ((0, 64), 8), ((63, 1), 1)];
+    for ((offset, length), words) in ranges {
+        assert_eq!(lent.store(1, offset, length), done(words));
+    }
+    // clean keeps its 8 words, and so does pre-hidden; the hidden entry after each has fewer
+    lent.board().begin(&[0; BLOCK], UNLIMITED);
+    lent.board().step(10, UNLIMITED);
+    assert_eq!((lent.store(1, 0, 1), lent.store(1, 0, 1)), (done(8), done(1)));
+    let mut lent = Lent::formatted(2, 1);
+    lent.store(1, 0, 1);
+    lent.board().begin(&[0; BLOCK], UNLIMITED);
+    assert_eq!(lent.store(1, 0, 1), done(0));
+    lent.board().step(10, UNLIMITED);
+    assert_eq!((lent.store(1, 0, 1), lent.store(1, 63, 1)), (done(8), done(1)));
+}
+
+#[test]
+fn a_cut_short_store() {
+    let mut lent = Lent::formatted(2, 1);
+    lent.store(1, 0, 1);
+    let mut after = lent.clone();
+    assert_eq!(lent.board().store(1, 14, &[5; 20], 2), Answer { number: Number::Cut, words: 2 });
+    after.memory[128 + 14..128 + 24].fill(5);
     after.record.phase = Phase::Off;
     assert_eq!(lent, after);
 }

@@ -27,7 +27,7 @@ const USAGE: &str = "usage: peer bench | batch | make SEED COUNT | compare SEED 
   make         writes COUNT frames
   compare      gives COUNT frames to one run of COMMAND, which works as batch does
   single       gives COUNT traces to a run of COMMAND each, which works as bench does
-  wrong        the ten wrong boards must each be found out
+  wrong        the fourteen wrong boards must each be found out
   fuzz         gives the cases of RUNS runs to one run of COMMAND, which works as tests/door/fuzz.c does
   wrong-doors  the twenty wrong doors must each be found out";
 

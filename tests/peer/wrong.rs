@@ -1,5 +1,5 @@
-// Wrong peers. The six traps of document 01, "Traps on this road", and four of document 02, No. 2, each make a wrong board, which the traces must
-// find out. The faults make a wrong door (document 02, No. 4), which the cases must find out.
+// Wrong peers. The six traps of document 01, "Traps on this road", four of document 02, No. 2, and four of its No. 5 each make a wrong board, which
+// the traces must find out. The faults make a wrong door (document 02, No. 4), which the cases must find out.
 use crate::calls;
 use crate::door::Door;
 use crate::make;
@@ -27,9 +27,17 @@ pub enum Trap {
     RegistersAtThree,
     /// The checkpoint after mark 3 goes to A, the finished backup.
     ThreeThenA,
+    /// A short store whose bytes end with a word stores the next word too.
+    OneWordMore,
+    /// A store that finds pre-hidden stores only the words that its bytes touch.
+    PreHiddenShort,
+    /// The state after the store decides which words it stores.
+    StateAfter,
+    /// Every store while Running stores 8 words.
+    AlwaysEight,
 }
 
-const TRAPS: [(Trap, &str); 10] = [
+const TRAPS: [(Trap, &str); 14] = [
     (Trap::HiddenRemoved, "hidden entry removed early"),
     (Trap::Exchanged, "two blocks exchanged while Writing"),
     (Trap::FreshToCheckpoint, "fresh block straight to CHECKPOINT"),
@@ -40,6 +48,10 @@ const TRAPS: [(Trap, &str); 10] = [
     (Trap::ThreeIsB, "mark 3 read as B"),
     (Trap::RegistersAtThree, "registers handed out at mark 3"),
     (Trap::ThreeThenA, "checkpoint after mark 3 goes to A"),
+    (Trap::OneWordMore, "a word more where the bytes end with a word"),
+    (Trap::PreHiddenShort, "pre-hidden stored short"),
+    (Trap::StateAfter, "the state after decides the words"),
+    (Trap::AlwaysEight, "still 8 words for each store"),
 ];
 
 /// Runs each wrong peer against the right one; a line for each, and whether all were found out.

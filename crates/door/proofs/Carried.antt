@@ -41,7 +41,7 @@ abbrev sizes : Board → C.Call → Geometry
 sizes board x = D.sizesFor x (board .volatile .controller)
 
 geometry-refused : (p : ℕ) (board : Board) (x : C.Call) → N.outside (sizes board x) ≡ true → C.call p board x ≡ refusal No.Geometry board
-unfolding C.call C.plan settle guard D.sizesFor N.firstOf N.numberOf N.commonChecks L.loadPlan L.loadNumber L.peekPlan L.peekNumber S.storePlan S.storeNumber K.beginPlan K.beginNumber K.stepPlan K.stepNumber B.formatPlan B.formatNumber B.recoverPlan B.recoverNumber
+unfolding C.call C.plan settle guard D.sizesFor N.firstOf N.numberOf N.commonChecks L.loadPlan L.loadNumber L.peekPlan L.peekNumber S.storePlan S.storeBy S.storeNumber K.beginPlan K.beginNumber K.stepPlan K.stepNumber B.formatPlan B.formatNumber B.recoverPlan B.recoverNumber
 geometry-refused p board (C.load block offset len) e = rw e
 geometry-refused p board (C.peek block) e = rw e
 geometry-refused p board (C.store block offset bytes) e = rw e
@@ -51,7 +51,7 @@ geometry-refused p board (C.format g fill) e = rw e
 geometry-refused p board (C.recover g) e = rw e
 
 buffer-refused : (p : ℕ) (board : Board) (x : C.Call) → N.outside (sizes board x) ≡ false → N.inexact (sizes board x) board ≡ true → C.call p board x ≡ refusal No.Buffer board
-unfolding C.call C.plan settle guard D.sizesFor N.firstOf N.numberOf N.commonChecks L.loadPlan L.loadNumber L.peekPlan L.peekNumber S.storePlan S.storeNumber K.beginPlan K.beginNumber K.stepPlan K.stepNumber B.formatPlan B.formatNumber B.recoverPlan B.recoverNumber
+unfolding C.call C.plan settle guard D.sizesFor N.firstOf N.numberOf N.commonChecks L.loadPlan L.loadNumber L.peekPlan L.peekNumber S.storePlan S.storeBy S.storeNumber K.beginPlan K.beginNumber K.stepPlan K.stepNumber B.formatPlan B.formatNumber B.recoverPlan B.recoverNumber
 buffer-refused p board (C.load block offset len) o e = rw (o, e)
 buffer-refused p board (C.peek block) o e = rw (o, e)
 buffer-refused p board (C.store block offset bytes) o e = rw (o, e)

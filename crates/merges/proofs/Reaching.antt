@@ -1,11 +1,8 @@
 -- Where the range of a store goes on, from one word of the block to the next.
-use mathlib.Core.Path.{_≡_, refl}
+use mathlib.Core.Path.{_≡_}
 use Prim.Native.Nat.{ℕ, _+_, _≤_, _<_}
 use native.Mathlib.Omega.{arith}
 use Rattle.merges.specs.Ranges.{Next, ahead, inside, past}
-
-pub first-next : (offset end : ℕ) → Next offset end 0 offset
-first-next offset end = ahead (omega arith) refl
 
 -- a word that the range does not reach
 pub not-reached : {offset end at next : ℕ} → at + 8 ≤ 64 → at + 8 ≤ next → Next offset end at next → Next offset end (at + 8) next

@@ -1,12 +1,13 @@
-// The new block of a store, built at its destination word by word (document 01, Stores; document 02, No. 3).
+// The new block of a store, built at its destination word by word (document 01, Stores; document 02, No. 3 and No. 5).
 ghost use mathlib.Core.Path.{_≡_};
 ghost use mathlib.Core.List.{List};
 ghost use Prim.Native.Nat.{ℕ, _+_, _*_, _-_, _≤_, _<_};
 ghost use lib.ListN.{length, take, drop};
 ghost use Rattle.words.specs.Words.{word, put, blockAt, bytesTo, Lays};
-ghost use Rattle.rules.specs.Stores.{replaced};
-ghost use Rattle.merges.specs.Ranges.{Next};
+ghost use Rattle.rules.specs.Stores.{replaced, windowTo};
+ghost use Rattle.merges.specs.Ranges.{Next, Opens};
 use rules::Geometry;
+use rules::Window;
 use words::copy_part;
 use words::least;
 use words::put_bytes;
@@ -90,30 +91,31 @@ pub fn lay_word(
     at + 8
 }
 
-// The new block where it shows in the lent slice that it goes to, perhaps at the same place: a word is read before it is stored, and no other word was.
+// Words of the new block where it shows in the lent slice that it goes to, perhaps at the same place: a word is read before it is stored, and no other word was.
 pub fn merge_within(
     part: &mut [u8],
     from: usize,
     to: usize,
     offset: usize,
     bytes: &[u8],
+    window: Window,
     p: usize,
 ) -> usize
-    requires { ⌜ (64 * from + 64 ≤ length (now part)) × (64 * to + 64 ≤ length (now part)) × (offset + length (now bytes) ≤ 64) ⌝ }
-    ensures { λ r. ⌜ Lays p (bytesTo (8 * to) 8 (replaced (blockAt (now (part .entry)) from) offset (now (bytes .entry)))) (now (part .entry)) (now (part .exit)) r ⌝ }
+    requires { ⌜ (64 * from + 64 ≤ length (now part)) × (64 * to + 64 ≤ length (now part)) × (offset + length (now bytes) ≤ 64) × Opens offset window ⌝ }
+    ensures { λ r. ⌜ Lays p (windowTo to window (replaced (blockAt (now (part .entry)) from) offset (now (bytes .entry)))) (now (part .entry)) (now (part .exit)) r ⌝ }
 {
-    let count = least(p, Geometry::BLOCK_WORDS);
+    let end = window.first + least(p, window.count);
     let mut next = offset;
-    let mut k = 0;
-    while k < count {
+    let mut k = window.first;
+    while k < end {
         let visible = eight_at(part, 64 * from + 8 * k);
         next = lay_word(part, 8 * to + k, visible, k, next, offset, bytes);
         k += 1;
     }
-    Geometry::BLOCK_WORDS
+    window.count
 }
 
-// The new block where it shows in the other lent slice.
+// The same where it shows in the other lent slice.
 pub fn merge_across(
     source: &[u8],
     from: usize,
@@ -121,20 +123,21 @@ pub fn merge_across(
     to: usize,
     offset: usize,
     bytes: &[u8],
+    window: Window,
     p: usize,
 ) -> usize
-    requires { ⌜ (64 * from + 64 ≤ length (now source)) × (64 * to + 64 ≤ length (now part)) × (offset + length (now bytes) ≤ 64) ⌝ }
-    ensures { λ r. ⌜ Lays p (bytesTo (8 * to) 8 (replaced (blockAt (now (source .entry)) from) offset (now (bytes .entry)))) (now (part .entry)) (now (part .exit)) r ⌝ }
+    requires { ⌜ (64 * from + 64 ≤ length (now source)) × (64 * to + 64 ≤ length (now part)) × (offset + length (now bytes) ≤ 64) × Opens offset window ⌝ }
+    ensures { λ r. ⌜ Lays p (windowTo to window (replaced (blockAt (now (source .entry)) from) offset (now (bytes .entry)))) (now (part .entry)) (now (part .exit)) r ⌝ }
 {
-    let count = least(p, Geometry::BLOCK_WORDS);
+    let end = window.first + least(p, window.count);
     let mut next = offset;
-    let mut k = 0;
-    while k < count {
+    let mut k = window.first;
+    while k < end {
         let visible = eight_at(source, 64 * from + 8 * k);
         next = lay_word(part, 8 * to + k, visible, k, next, offset, bytes);
         k += 1;
     }
-    Geometry::BLOCK_WORDS
+    window.count
 }
 
 // A range of 64 bytes is the new block: nothing is read of the visible one.

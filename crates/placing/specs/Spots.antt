@@ -14,3 +14,7 @@ spotOf (Cache index) = L.inCache index
 abbrev pub Fits : List ℕ → List ℕ → L.Spot → Type 0
 Fits memory cache (L.inMemory q) = 64 * q + 64 ≤ length memory
 Fits memory cache (L.inCache q) = 64 * q + 64 ≤ length cache
+
+-- a block of the nonvolatile memory
+pub data InMemory : L.Spot → Type 0 where
+  in-memory : (index : ℕ) → InMemory (L.inMemory index)

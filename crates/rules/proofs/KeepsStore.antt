@@ -4,7 +4,7 @@ use mathlib.Core.Logic.{_≢_}
 use mathlib.Core.Bool.{Bool, true, false, cond}
 use mathlib.Core.List.{List, [], _∷_, _++_, map}
 use mathlib.Core.Option.{Option, none, some}
-use Prim.Native.Nat.{ℕ, zero, suc, _+_, _*_, _-_, _≤_, _<_}
+use Prim.Native.Nat.{ℕ, zero, suc, _+_, _*_, _≤_, _<_}
 use native.Mathlib.Omega.{arith}
 use native.Mathlib.Nat.{suc-ne-zero, not-suc-le-zero, zero-add, suc-add}
 use native.Mathlib.Decide.{ℕ-discrete}
@@ -17,7 +17,7 @@ use Rattle.words.proofs.All.{All, done, all-take, all-map}
 use Rattle.words.proofs.Lists.{lay-length}
 use Rattle.words.proofs.Rising.{Held}
 use Rattle.words.proofs.Makers.{Laid}
-use Rattle.words.proofs.Blocks.{block-laid, block-stores, block-laid-other, length-block}
+use Rattle.words.proofs.Blocks.{block-stores, length-block}
 use Rattle.rules.specs.declared.Geometry.{Geometry}
 use Rattle.rules.specs.declared.Backup.the-variants.{A}
 use Rattle.rules.specs.declared.Phase.{Phase}
@@ -28,14 +28,15 @@ use Rattle.rules.specs.declared.Lookup.{Lookup}
 use Rattle.rules.specs.declared.Lookup.the-variants.{Entry, Nothing}
 use Rattle.rules.specs.declared.Place.{Place}
 use Rattle.rules.specs.declared.Place.the-variants.{Home, Checkpoint, Cache}
+use Rattle.rules.specs.declared.Window.{Window}
 use Rattle.rules.specs.declared.Number.the-variants as No
 use Rattle.rules.specs.Geometry.{homeBlock, checkpointBlock}
 use Rattle.rules.specs.TableWords.{wordOf, names, says, lookup, lowestFree, entryOr, changed}
 use Rattle.rules.specs.Board.{Board, Volatile, sizes, phaseOf, cacheOf, tableOf}
 use Rattle.rules.specs.Numbers.{numberOf, Check, _⇒_, isOff, whileWriting, allows, wellSaid, wellFormed, outOfRange}
 use Rattle.rules.specs.Power.{Plan, carry}
-use Rattle.rules.specs.Loads.{Spot, inMemory, inCache, spotIn, shows, spotOf, blockIn, visible, seen}
-use Rattle.rules.specs.Stores.{replaced, to, stores, moveIn, slotFor, full, storeNumber, layAt, moved, movedTo, storePlan}
+use Rattle.rules.specs.Loads.{Spot, spotIn, shows, spotOf, blockIn, visible, seen}
+use Rattle.rules.specs.Stores.{replaced, to, stores, moveIn, slotFor, full, storeNumber, all, isShort, windowFor, windowTo, layAt, moved, movedTo, storeBy, storePlan}
 use Rattle.rules.specs.Checkpoints.{begun, saved, other, checkpointList}
 use Rattle.rules.specs.Starts.{savedBy, savedBlock}
 use Rattle.rules.specs.Calls.{store}
@@ -48,6 +49,9 @@ use Rattle.rules.proofs.Changing.{foundOr, found, changed-finds, change
 use Rattle.rules.proofs.FreeSlot.{Vacant, VacantAt, vacant, vacant-at, vacant-lt}
 use Rattle.rules.proofs.Saving.{Loose, in-block, kept-whole}
 use Rattle.rules.proofs.Checked.{passed, Common, common-passed, Lent, InRange, in-range}
+use Rattle.rules.proofs.Replaced.{length-replaced}
+use Rattle.rules.proofs.Windows.{window-stores}
+use Rattle.rules.proofs.LaidAt.{memory-cache, memoryWith, cacheWith, storesAt, Room, Whole, spot-laid, spot-other, window-covers, row-whole}
 use Rattle.rules.proofs.Invariant.{standing, Live, Drafted, Mode, is-running, is-writing, is-off, Inv, Keeps, k-refuse, k-carry, did-not, no-mark, note-unmarked, note-loose, guarded, stopped}
 
 -- ---- the slot that a store takes
@@ -79,52 +83,7 @@ sits-other : {block slot i k : ℕ} {table : List ℕ} {state : State} → Sits 
 sits-other {block} {slot} {i} {k} {table} {state} s ne r e =
     sits-skips s k ne .never state (subst (λ (n : ℕ). says (getD table n 0) ≡ names k state) e (found-at r))
 
--- ---- a block laid at a spot
-
-unfoldable pub memoryWith : List ℕ → List ℕ → Spot → List ℕ
-memoryWith memory fresh (inMemory q) = lay (bytesTo (8 * q) 8 fresh) memory
-memoryWith memory fresh (inCache q) = memory
-
-unfoldable pub cacheWith : List ℕ → List ℕ → Spot → List ℕ
-cacheWith cache fresh (inMemory q) = cache
-cacheWith cache fresh (inCache q) = lay (bytesTo (8 * q) 8 fresh) cache
-
--- the plan that lays it: its words of the list, and its CACHE
-unfoldable pub storesAt : List ℕ → Spot → List Store
-storesAt fresh (inMemory q) = bytesTo (8 * q) 8 fresh
-storesAt fresh (inCache q) = []
-
-pub laid-at : (board : Board) (table fresh : List ℕ) (s : Spot)
-    → layAt board table fresh s ≡ carry (storesAt fresh s) (record { cache = cacheWith (cacheOf board) fresh s; table = table; controller = board .volatile .controller }) []
-unfolding layAt storesAt cacheWith
-laid-at board table fresh (inMemory q) = refl
-laid-at board table fresh (inCache q) = refl
-
-pub memory-at : (memory fresh : List ℕ) (s : Spot) → lay (storesAt fresh s) memory ≡ memoryWith memory fresh s
-unfolding lay storesAt memoryWith
-memory-at memory fresh (inMemory q) = refl
-memory-at memory fresh (inCache q) = refl
-
-unfoldable pub Room : List ℕ → List ℕ → Spot → Type 0
-Room memory cache (inMemory q) = 64 * q + 64 ≤ length memory
-Room memory cache (inCache q) = 64 * q + 64 ≤ length cache
-
-pub spot-laid : (memory cache fresh : List ℕ) (s : Spot) → length fresh ≡ 64 → Room memory cache s
-    → blockIn (memoryWith memory fresh s) (cacheWith cache fresh s) s ≡ fresh
-unfolding memoryWith cacheWith Room blockIn
-spot-laid memory cache fresh (inMemory q) e h = block-laid memory q fresh e h
-spot-laid memory cache fresh (inCache q) e h = block-laid cache q fresh e h
-
-pub spot-other : (memory cache fresh : List ℕ) (s r : Spot) → length fresh ≡ 64 → Room memory cache s → r ≢ s
-    → blockIn (memoryWith memory fresh s) (cacheWith cache fresh s) r ≡ blockIn memory cache r
-unfolding memoryWith cacheWith Room blockIn
-spot-other memory cache fresh (inMemory q) (inMemory a) e h ne = block-laid-other memory a q fresh e h (λ z. ne (ap inMemory z))
-spot-other memory cache fresh (inMemory q) (inCache a) e h ne = refl
-spot-other memory cache fresh (inCache q) (inMemory a) e h ne = refl
-spot-other memory cache fresh (inCache q) (inCache a) e h ne = block-laid-other cache a q fresh e h (λ z. ne (ap inCache z))
-
-memory-cache : (q i : ℕ) → inMemory q ≡ inCache i → ⊥
-memory-cache q i e = let z : _≡_ {A = ℕ} 0 1 = cc in omega arith
+-- ---- where a block goes, no other shows
 
 -- two blocks at two slots have no spot in common
 spots-apart : (g : Geometry) (k block i slot : ℕ) (p r : Place) → k < g .blocks → block < g .blocks → k ≢ block → i ≢ slot
@@ -251,23 +210,11 @@ replaced-is [] (suc offset) bytes h = absurd (omega arith)
 replaced-is (b ∷ block) (suc offset) bytes h =
     rw (suc-add offset (length bytes)) (ap (λ (z : List ℕ). b ∷ z) (replaced-is block offset bytes (omega arith)))
 
-length-over : (block bytes : List ℕ) → length (laidOver block bytes) ≡ length block
-unfolding laidOver
-length-over block [] = refl
-length-over [] (x ∷ bytes) = refl
-length-over (b ∷ block) (x ∷ bytes) = ap suc (length-over block bytes)
-
-length-overlaid : (block : List ℕ) (offset : ℕ) (bytes : List ℕ) → length (overlaid block offset bytes) ≡ length block
-unfolding overlaid
-length-overlaid block zero bytes = length-over block bytes
-length-overlaid [] (suc offset) bytes = refl
-length-overlaid (b ∷ block) (suc offset) bytes = ap suc (length-overlaid block offset bytes)
-
 pub replaced-length : (block : List ℕ) (offset : ℕ) (bytes : List ℕ) → length block ≡ 64 → offset + length bytes ≤ 64 → length (replaced block offset bytes) ≡ 64
-replaced-length block offset bytes e h = ap length (replaced-is block offset bytes (omega arith)) ∙ length-overlaid block offset bytes ∙ e
+replaced-length block offset bytes e h = length-replaced block offset bytes (omega arith) ∙ e
 
-module _ (board : Board) (plain : Plain) (v : Inv board plain) (block offset : ℕ) (bytes fresh : List ℕ) (lt : block < sizes board .blocks)
-    (eight : length fresh ≡ 64) (is : fresh ≡ overlaid (plain .live block) offset bytes) where
+module _ (board : Board) (plain : Plain) (v : Inv board plain) (block offset : ℕ) (bytes fresh : List ℕ) (lt : block < sizes board .blocks) (fits : offset + length bytes ≤ 64)
+    (made : fresh ≡ replaced (seen board block) offset bytes) (eight : length fresh ≡ 64) (is : fresh ≡ overlaid (plain .live block) offset bytes) where
   abbrev g : Geometry
   g = sizes board
 
@@ -285,22 +232,28 @@ module _ (board : Board) (plain : Plain) (v : Inv board plain) (block offset : �
       → ((k : ℕ) → k < g .blocks → savedBlock g (map (changed standing) table) k ≢ q)
       → changed standing (wordOf block next) ≡ changed standing (getD table slot 0)
       → Live g (allows Running) (lay (bytesTo (8 * q) 8 fresh) (board .memory)) (cacheOf board) (set table slot (wordOf block next)) (update (plain .live) block fresh)
-      → Keeps board plain (store block offset bytes) (carry (bytesTo (8 * q) 8 fresh) (after slot next (cacheOf board)) [])
+      → (window : Window)
+      → window .first + window .count ≤ 8
+      → lay (windowTo q window fresh) (board .memory) ≡ lay (bytesTo (8 * q) 8 fresh) (board .memory)
+      → Keeps board plain (store block offset bytes) (carry (windowTo q window fresh) (after slot next (cacheOf board)) [])
   unfolding did
-  running-store slot q next ph be lq loose se sh =
+  running-store slot q next ph be lq loose se sh window few whole =
       k-carry refl (subst (Inv _) (sym (note-loose g plain (store block offset bytes) 0 (board .volatile .controller .finished) (v .keeps) lo)) all)
       (λ p h. subst (Inv _)
       (sym (note-loose g plain (store block offset bytes) 20 (board .volatile .controller .finished) (v .keeps) (all-take p lo) ∙ did-not plain (store block offset bytes) 20 (suc-ne-zero 19)))
       (stopped v ws (run .fits) lo p))
     where
       ws : List Store
-      ws = bytesTo (8 * q) 8 fresh
+      ws = windowTo q window fresh
 
-      run : Laid (8 * q) 8 (length (board .memory)) ws
-      run = block-stores q (length (board .memory)) fresh eight (omega (arith, v .lent .memory))
+      run : Laid (8 * q + window .first) (window .count) (length (board .memory)) ws
+      run = window-stores q (length (board .memory)) window fresh few eight (omega (arith, v .lent .memory))
 
       lo : All (Loose g (board .volatile .controller .finished) (v .keeps)) ws
-      lo = all-map (λ w h. in-block q lq (subst (λ (z : List ℕ). (k : ℕ) → k < g .blocks → savedBlock g z k ≢ q) (sym be) loose) (h .low) (h .high)) (run .inside)
+      lo =
+          all-map
+          (λ w h. in-block q lq (subst (λ (z : List ℕ). (k : ℕ) → k < g .blocks → savedBlock g z k ≢ q) (sym be) loose) (omega (arith, h .low)) (omega (arith, h .high)))
+          (run .inside)
 
       all : Inv (record { memory = lay ws (board .memory); volatile = after slot next (cacheOf board) }) (did plain (store block offset bytes) 0)
       all = record {
@@ -316,7 +269,9 @@ module _ (board : Board) (plain : Plain) (v : Inv board plain) (block offset : �
         mode =
             subst (Mode _ _ _) (sym ph)
             (is-running (be ∙ sym (map-set-same (changed standing) table slot (wordOf block next) 0 se))
-            (subst (λ (z : List ℕ). Live g (allows Running) (lay ws (board .memory)) (cacheOf board) (set table slot (wordOf block next)) (update (plain .live) block z)) is sh));
+            (subst (λ (z : List ℕ). Live g (allows Running) z (cacheOf board) (set table slot (wordOf block next)) (update (plain .live) block (overlaid (plain .live block) offset bytes)))
+            (sym whole)
+            (subst (λ (z : List ℕ). Live g (allows Running) (lay (bytesTo (8 * q) 8 fresh) (board .memory)) (cacheOf board) (set table slot (wordOf block next)) (update (plain .live) block z)) is sh)));
       }
 
   -- a store to CACHE, while Writing
@@ -375,36 +330,55 @@ module _ (board : Board) (plain : Plain) (v : Inv board plain) (block offset : �
       → Finds block table r
       → (z : Option ℕ)
       → VacantAt table z
-      → Keeps board plain (store block offset bytes) (movedTo board block (slotFor r z) fresh (stores r .running))
-  unfolding movedTo moved layAt slotFor stores standing numberOf spotIn allows Room memoryWith cacheWith
+      → Keeps board plain (store block offset bytes) (movedTo board block (slotFor r z) fresh (windowFor (isShort Running r) offset (length bytes)) (stores r .running))
+  unfolding movedTo moved layAt slotFor stores moveIn standing numberOf spotIn allows seen visible Room Whole storesAt memoryWith cacheWith
   while-running ph be sh = go
     where
+      window : Lookup → Window
+      window r = windowFor (isShort Running r) offset (length bytes)
+
+      few : (r : Lookup) → window r .first + window r .count ≤ 8
+      few r = window-covers (isShort Running r) offset (length bytes) fits .few
+
       room : (q : ℕ) → q < g .blocks + g .slots → 64 * q + 64 ≤ length (board .memory)
       room q h = omega (arith, v .lent .memory)
 
-      to-home : (slot : ℕ) (state : State) → Finds block table (Entry slot state) → standing state ≡ some Clean
-          → Keeps board plain (store block offset bytes) (moved board block slot fresh (to Home Hidden))
-      to-home slot state l e =
+      whole : (r : Lookup) → Finds block table r → (slot : ℕ) (place : Place) (state : State) → stores r .running ≡ to place state → ((i : ℕ) (s : State) → r ≡ Entry i s → i ≡ slot)
+          → Room (board .memory) (cacheOf board) (spotIn g block slot place) → Whole (board .memory) fresh (window r) (spotIn g block slot place)
+      whole r l slot place state m e h =
+          subst (λ (z : List ℕ). Whole (board .memory) z (window r) (spotIn g block slot place))
+          (sym (made ∙ ap (λ (z : Lookup). replaced (blockIn (board .memory) (cacheOf board) (spotOf g block z)) offset bytes) (finds-lookup l)))
+          (row-whole g (board .memory) (cacheOf board) block offset bytes Running r slot place state m e h fits)
+
+      to-home : (slot : ℕ) (state : State) → Finds block table (Entry slot state) → standing state ≡ some Clean → stores (Entry slot state) .running ≡ to Home Hidden
+          → Keeps board plain (store block offset bytes) (moved board block slot fresh (window (Entry slot state)) (to Home Hidden))
+      to-home slot state l e m =
+          let rm : 64 * block + 64 ≤ length (board .memory) = room block (omega arith) in
           running-store slot block Hidden ph be (omega arith) (home-loose standing g table block slot state Clean (sh .apart) lt l e)
           (same-old standing g table block slot state Hidden l (sym e))
-          (live-stored g (allows Running) (board .memory) (cacheOf board) table (plain .live) block slot Hidden fresh sh (old l) lt refl eight (room block (omega arith)))
+          (live-stored g (allows Running) (board .memory) (cacheOf board) table (plain .live) block slot Hidden fresh sh (old l) lt refl eight rm)
+          (window (Entry slot state)) (few (Entry slot state)) (whole (Entry slot state) l slot Home Hidden m (λ i s q. cc) rm)
 
-      to-checkpoint : (slot : ℕ) → Sits block table slot → changed standing (getD table slot 0) ≡ 0
-          → Keeps board plain (store block offset bytes) (moved board block slot fresh (to Checkpoint Dirty))
-      to-checkpoint slot q u =
+      to-checkpoint : (r : Lookup) → Finds block table r → (slot : ℕ) → Sits block table slot → changed standing (getD table slot 0) ≡ 0
+          → stores r .running ≡ to Checkpoint Dirty → ((i : ℕ) (s : State) → r ≡ Entry i s → i ≡ slot)
+          → Keeps board plain (store block offset bytes) (moved board block slot fresh (window r) (to Checkpoint Dirty))
+      to-checkpoint r l slot q u m e =
           let ls : g .blocks + slot < g .blocks + g .slots = omega (arith, sits-lt q, v .lent .table) in
+          let rm : 64 * (g .blocks + slot) + 64 ≤ length (board .memory) = room (g .blocks + slot) ls in
           running-store slot (g .blocks + slot) Dirty ph be ls (slot-loose standing g table slot u) (gone-new standing g table block Dirty refl ∙ sym u)
-          (live-stored g (allows Running) (board .memory) (cacheOf board) table (plain .live) block slot Dirty fresh sh q lt refl eight (room (g .blocks + slot) ls))
+          (live-stored g (allows Running) (board .memory) (cacheOf board) table (plain .live) block slot Dirty fresh sh q lt refl eight rm)
+          (window r) (few r) (whole r l slot Checkpoint Dirty m e rm)
 
       go : (r : Lookup) → Finds block table r → (z : Option ℕ) → VacantAt table z
-          → Keeps board plain (store block offset bytes) (movedTo board block (slotFor r z) fresh (stores r .running))
+          → Keeps board plain (store block offset bytes) (movedTo board block (slotFor r z) fresh (window r) (stores r .running))
       go Nothing l none u = k-refuse (suc-ne-zero 6)
-      go Nothing l (some slot) u = to-checkpoint slot (new l u) (changed-free standing (getD table slot 0) (vacant-at u))
-      go (Entry slot Clean) l z u = to-home slot Clean l refl
-      go (Entry slot Dirty) l z u = to-checkpoint slot (old l) (gone-old standing g table block slot Dirty l refl)
-      go (Entry slot Hidden) l z u = to-home slot Hidden l refl
-      go (Entry slot PreHidden) l z u = to-home slot PreHidden l refl
-      go (Entry slot PreDirty) l z u = to-checkpoint slot (old l) (gone-old standing g table block slot PreDirty l refl)
+      go Nothing l (some slot) u =
+          to-checkpoint Nothing l slot (new l u) (changed-free standing (getD table slot 0) (vacant-at u)) refl (λ i s q. absurd (nothing-entry i s q))
+      go (Entry slot Clean) l z u = to-home slot Clean l refl refl
+      go (Entry slot Dirty) l z u = to-checkpoint (Entry slot Dirty) l slot (old l) (gone-old standing g table block slot Dirty l refl) refl (λ i s q. cc)
+      go (Entry slot Hidden) l z u = to-home slot Hidden l refl refl
+      go (Entry slot PreHidden) l z u = to-home slot PreHidden l refl refl
+      go (Entry slot PreDirty) l z u = to-checkpoint (Entry slot PreDirty) l slot (old l) (gone-old standing g table block slot PreDirty l refl) refl (λ i s q. cc)
 
   -- the rows of the column Writing
   while-writing : (count : ℕ)
@@ -415,34 +389,34 @@ module _ (board : Board) (plain : Plain) (v : Inv board plain) (block offset : �
       → Finds block table r
       → (z : Option ℕ)
       → VacantAt table z
-      → Keeps board plain (store block offset bytes) (movedTo board block (slotFor r z) fresh (stores r .writing))
-  unfolding movedTo moved layAt slotFor stores saved numberOf spotIn whileWriting Room memoryWith cacheWith
+      → Keeps board plain (store block offset bytes) (movedTo board block (slotFor r z) fresh (windowFor (isShort (Writing count) r) offset (length bytes)) (stores r .writing))
+  unfolding movedTo moved layAt slotFor stores isShort windowFor saved numberOf spotIn whileWriting Room memoryWith cacheWith
   while-writing count ph sh dr = go
     where
       to-cache : (slot : ℕ) (next : State) → Sits block table slot
           → changed saved (wordOf block next) ≡ changed saved (getD table slot 0)
           → Live g whileWriting (board .memory) (lay (bytesTo (8 * slot) 8 fresh) (cacheOf board)) (set table slot (wordOf block next)) (update (plain .live) block fresh)
-          → Keeps board plain (store block offset bytes) (moved board block slot fresh (to Cache next))
+          → Keeps board plain (store block offset bytes) (moved board block slot fresh all (to Cache next))
       to-cache slot next q se live = writing-store count slot next ph (omega (arith, sits-lt q, v .lent .table)) se dr live
 
       room : (slot : ℕ) → Sits block table slot → 64 * slot + 64 ≤ length (cacheOf board)
       room slot q = omega (arith, sits-lt q, v .lent .table, v .lent .cache)
 
       to-pre-hidden : (slot : ℕ) (state : State) → Finds block table (Entry slot state) → saved state ≡ some Clean
-          → Keeps board plain (store block offset bytes) (moved board block slot fresh (to Cache PreHidden))
+          → Keeps board plain (store block offset bytes) (moved board block slot fresh all (to Cache PreHidden))
       to-pre-hidden slot state l e =
           to-cache slot PreHidden (old l) (same-old saved g table block slot state PreHidden l (sym e))
           (live-stored g whileWriting (board .memory) (cacheOf board) table (plain .live) block slot PreHidden fresh sh (old l) lt refl eight (room slot (old l)))
 
       to-pre-dirty : (slot : ℕ) → Sits block table slot → changed saved (getD table slot 0) ≡ 0
-          → Keeps board plain (store block offset bytes) (moved board block slot fresh (to Cache PreDirty))
+          → Keeps board plain (store block offset bytes) (moved board block slot fresh all (to Cache PreDirty))
       to-pre-dirty slot q u =
           to-cache slot PreDirty q (gone-new saved g table block PreDirty refl ∙ sym u)
           (live-stored g whileWriting (board .memory) (cacheOf board) table (plain .live) block slot PreDirty fresh sh q lt refl eight (room slot q))
 
       -- the rows that are not well formed are not met
       go : (r : Lookup) → Finds block table r → (z : Option ℕ) → VacantAt table z
-          → Keeps board plain (store block offset bytes) (movedTo board block (slotFor r z) fresh (stores r .writing))
+          → Keeps board plain (store block offset bytes) (movedTo board block (slotFor r z) fresh (windowFor (isShort (Writing count) r) offset (length bytes)) (stores r .writing))
       go Nothing l none u = k-refuse (suc-ne-zero 6)
       go Nothing l (some slot) u = to-pre-dirty slot (new l u) (changed-free saved (getD table slot 0) (vacant-at u))
       go (Entry slot Clean) l z u = to-pre-hidden slot Clean l refl
@@ -471,7 +445,7 @@ seen-length board l block h = go (lookup block (tableOf board)) (finds block (ta
 
 pub store-keeps : (board : Board) (plain : Plain) → Inv board plain → (block offset : ℕ) (bytes : List ℕ)
     → Keeps board plain (store block offset bytes) (storePlan board block offset bytes)
-unfolding storePlan storeNumber seen moveIn
+unfolding storePlan storeBy storeNumber seen moveIn
 store-keeps board plain v block offset bytes = guarded (storeNumber board block offset bytes) (λ e. go e)
   where
     own : List Check
@@ -485,7 +459,7 @@ store-keeps board plain v block offset bytes = guarded (storeNumber board block 
 
     goal : Phase → Plan
     goal phase =
-        movedTo board block (slotFor (lookup block (tableOf board)) (lowestFree (tableOf board))) fresh (moveIn phase (stores (lookup block (tableOf board))))
+        movedTo board block (slotFor (lookup block (tableOf board)) (lowestFree (tableOf board))) fresh (windowFor (isShort phase (lookup block (tableOf board))) offset (length bytes)) (moveIn phase (stores (lookup block (tableOf board))))
 
     fresh-is : InRange board block offset (length bytes) → seen board block ≡ plain .live block → fresh ≡ overlaid (plain .live block) offset bytes
     fresh-is r e =
@@ -495,12 +469,12 @@ store-keeps board plain v block offset bytes = guarded (storeNumber board block 
     body : Common board false → InRange board block offset (length bytes) → (phase : Phase) → phaseOf board ≡ phase → Mode board plain (v .keeps) phase
         → Keeps board plain (store block offset bytes) (goal phase)
     body cm r Running e (is-running be sh) =
-        while-running board plain v block offset bytes fresh (r .below)
+        while-running board plain v block offset bytes fresh (r .below) (r .fits) refl
         (replaced-length (seen board block) offset bytes (seen-length board (v .lent) block (r .below)) (r .fits))
         (fresh-is r (sh .shows block (r .below))) e be sh (lookup block (tableOf board)) (finds block (tableOf board))
         (lowestFree (tableOf board)) (vacant (tableOf board))
     body cm r (Writing count) e (is-writing sh dr) =
-        while-writing board plain v block offset bytes fresh (r .below)
+        while-writing board plain v block offset bytes fresh (r .below) (r .fits) refl
         (replaced-length (seen board block) offset bytes (seen-length board (v .lent) block (r .below)) (r .fits))
         (fresh-is r (sh .shows block (r .below))) count e sh dr (lookup block (tableOf board)) (finds block (tableOf board))
         (lowestFree (tableOf board)) (vacant (tableOf board))

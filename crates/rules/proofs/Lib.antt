@@ -8,6 +8,9 @@ pub mod Protection
 pub mod Saving
 pub mod Checked
 pub mod Invariant
+pub mod Replaced
+pub mod Windows
+pub mod LaidAt
 pub mod KeepsStore
 pub mod KeepsStep
 pub mod KeepsBegin
@@ -19,6 +22,7 @@ pub mod Demand3
 pub mod NoneFinished
 pub mod Demand2
 pub mod Moves
+pub mod ShortStores
 pub mod LetteredCases
 pub mod Pinned
 pub mod ProtectedWords

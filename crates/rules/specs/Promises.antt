@@ -1,23 +1,28 @@
--- Demands 2 and 3 as statements: what the assessor stamps. Their proofs are in proofs/Demand2.antt and proofs/Demand3.antt.
+-- Demands 2 and 3 as statements, and what the later requests ask of them: what the assessor stamps.
+-- Their proofs are in proofs/Demand2.antt, Demand3.antt, Moves.antt, NoneFinished.antt and ShortStores.antt.
 use mathlib.Core.Path.{_≡_}
 use mathlib.Core.Logic.{_≢_, _↔_}
 use mathlib.Core.List.{List, map}
 use mathlib.Core.Option.{none, some}
-use Prim.Native.Nat.{ℕ, _+_, _-_, _≤_, _<_}
+use Prim.Native.Nat.{ℕ, _+_, _*_, _≤_, _<_, min}
 use lib.ListN.{length, getD, set, take, drop, replicate}
 use Rattle.words.specs.Words.{word, words, lay, number}
 use Rattle.rules.specs.declared.Geometry.{Geometry}
 use Rattle.rules.specs.declared.Backup.{Backup}
 use Rattle.rules.specs.declared.Backup.the-variants.{B}
 use Rattle.rules.specs.declared.State.{State}
+use Rattle.rules.specs.declared.State.the-variants.{Dirty, Hidden}
+use Rattle.rules.specs.declared.Lookup.the-variants.{Entry}
+use Rattle.rules.specs.declared.Phase.the-variants.{Running}
 use Rattle.rules.specs.declared.Place.{Place}
+use Rattle.rules.specs.declared.Window.{Window}
 use Rattle.rules.specs.Geometry.{markStart}
 use Rattle.rules.specs.TableWords.{wordOf, lookup, lowestFree, changed}
 use Rattle.rules.specs.Board.{Board, Volatile, sizes, phaseOf, cacheOf, tableOf}
 use Rattle.rules.specs.Numbers.{numberOf}
-use Rattle.rules.specs.Power.{Outcome, stored}
-use Rattle.rules.specs.Loads.{spotIn, shows, blockIn, seen, loadNumber}
-use Rattle.rules.specs.Stores.{replaced, to, stores, moveIn, slotFor}
+use Rattle.rules.specs.Power.{Outcome, settle, stored}
+use Rattle.rules.specs.Loads.{inMemory, spotIn, spotOf, shows, blockIn, seen, loadNumber}
+use Rattle.rules.specs.Stores.{replaced, to, stores, moveIn, slotFor, storeNumber, all, windowTo, storeBy}
 use Rattle.rules.specs.Checkpoints.{begun, saved, checkpointList, countOf, nextWords}
 use Rattle.rules.specs.Starts.{finishedIn, savedRegisters, tableIn, recorded, registersGiven}
 use Rattle.rules.specs.Calls.{Call, load, peek, store, begin, step, format, recover, plan, call}
@@ -171,3 +176,49 @@ CutFormat =
     → numberOf (call p board (format g fill) .number) ≡ 20
     → (p ≡ 0 → call p board (format g fill) .board .memory ≡ board .memory)
     × (p ≢ 0 → number (word (call p board (format g fill) .board .memory) (markStart g)) ≡ 0)
+
+-- ---- fewer words worn out by repeated stores (document 02, No. 5)
+
+-- a byte of the range lies in word k of its block
+unfoldable pub Touches : ℕ → ℕ → ℕ → Type 0
+Touches offset len k = (8 * k < offset + len) × (offset < 8 * k + 8)
+
+-- a store whose list has the words that its bytes touch, and no others: 1 to 8 words of the new block, where the old one shows
+pub record ShortList (board : Board) (block offset : ℕ) (bytes : List ℕ) : Type 0 where
+  pub q : ℕ
+  pub shown : spotOf (sizes board) block (lookup block (tableOf board)) ≡ inMemory q
+  pub window : Window
+  pub some-word : 1 ≤ window .count
+  pub at-most-eight : window .count ≤ 8
+  pub touched : (k : ℕ) → ((window .first ≤ k) × (k < window .first + window .count)) ↔ Touches offset (length bytes) k
+  pub list : (p : ℕ) → stored p (plan board (store block offset bytes)) ≡ take p (windowTo q window (replaced (seen board block) offset bytes))
+
+pub data DirtyOrHidden : State → Type 0 where
+  is-dirty : DirtyOrHidden Dirty
+  is-hidden : DirtyOrHidden Hidden
+
+-- a store while Running that finds dirty or hidden, and passes its checks
+unfoldable pub ShortStores : Type 0
+ShortStores =
+    (board : Board) (block offset : ℕ) (bytes : List ℕ) (slot : ℕ) (state : State)
+    → phaseOf board ≡ Running
+    → lookup block (tableOf board) ≡ Entry slot state
+    → DirtyOrHidden state
+    → numberOf (storeNumber board block offset bytes) ≡ 0
+    → ShortList board block offset bytes
+
+-- every other store while Running has 8 words, of which the supply stores the first p
+unfoldable pub EightElsewhere : Type 0
+EightElsewhere =
+    (p : ℕ) (board : Board) (block offset : ℕ) (bytes : List ℕ)
+    → phaseOf board ≡ Running
+    → ((slot : ℕ) (state : State) → DirtyOrHidden state → lookup block (tableOf board) ≢ Entry slot state)
+    → numberOf (storeNumber board block offset bytes) ≡ 0
+    → length (stored p (plan board (store block offset bytes))) ≡ min p 8
+
+-- a store that isn't cut leaves the board that document 01's list of all 8 words leaves
+unfoldable pub SameBytes : Type 0
+SameBytes =
+    (p : ℕ) (board : Board) (block offset : ℕ) (bytes : List ℕ)
+    → numberOf (call p board (store block offset bytes) .number) ≡ 0
+    → call p board (store block offset bytes) .board ≡ settle 8 board (storeBy all board block offset bytes) .board

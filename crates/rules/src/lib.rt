@@ -112,6 +112,12 @@ pub enum Place {
     Cache,
 }
 
+// The words of a new block that a store lays: `count` of them, from word `first` of the block on.
+pub struct Window {
+    pub first: usize,
+    pub count: usize,
+}
+
 // The numbers returned, by their names.
 pub enum Number {
     Done,

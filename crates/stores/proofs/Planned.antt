@@ -4,15 +4,19 @@ use mathlib.Core.Logic.{_≢_}
 use mathlib.Core.Bool.{Bool, true, false, not}
 use mathlib.Core.List.{List, [], _∷_, _++_, append-assoc}
 use mathlib.Core.Option.{Option, none, some}
-use Prim.Native.Nat.{ℕ, _<_}
+use Prim.Native.Nat.{ℕ, _+_, _<_}
 use native.Mathlib.Nat.{suc-ne-zero}
 use lib.Dec.{eqb}
 use lib.ListN.{length}
 use borrow.Author.Tests.{not-false}
 use Rattle.words.proofs.All.{All, done, also, all-append}
+use Rattle.rules.specs.declared.Geometry.{Geometry}
 use Rattle.rules.specs.declared.Controller.{Controller}
+use Rattle.rules.specs.declared.Phase.{Phase}
+use Rattle.rules.specs.declared.State.{State}
 use Rattle.rules.specs.declared.Lookup.{Lookup}
 use Rattle.rules.specs.declared.Lookup.the-variants.{Entry, Nothing}
+use Rattle.rules.specs.declared.Place.{Place}
 use Rattle.rules.specs.declared.Number.{Number}
 use Rattle.rules.specs.declared.Number.the-variants as No
 use Rattle.rules.specs.declared.Answer.{Answer}
@@ -20,11 +24,15 @@ use Rattle.rules.specs.TableWords.{lookup, lowestFree}
 use Rattle.rules.specs.Board.{Board, boardOf, tableOf}
 use Rattle.rules.specs.Numbers.{numberOf, Check, _⇒_, firstOf, commonChecks, outOfRange}
 use Rattle.rules.specs.Power.{Plan, Outcome, guard, settle, outcomeOf}
-use Rattle.rules.specs.Loads.{spotOf, blockIn, visible, seen, loadNumber}
-use Rattle.rules.specs.Stores.{replaced, stores, moveIn, slotFor, full, storeNumber, moved, movedTo, storePlan}
+use Rattle.rules.specs.Loads.{Spot, spotIn, spotOf, blockIn, visible, seen, loadNumber}
+use Rattle.rules.specs.Stores.{replaced, stores, moveIn, slotFor, full, storeNumber, isShort, windowFor, moved, movedTo, storeBy, storePlan}
 use Rattle.rules.specs.Stores as S
 use Rattle.rules.specs.Calls.{store, plan, call}
+use Rattle.rules.proofs.LaidAt.{found-taken, short-only, short-shown}
 use Rattle.rules.proofs.FreeSlot.{VacantAt, vacant, vacant-lt}
+use Rattle.placing.specs.Spots.{InMemory, in-memory}
+use Rattle.moves.specs.declared.Move.{Move}
+use Rattle.moves.specs.Moves.{moveOf, shortOf}
 use Rattle.checks.specs.declared.table.FreeSlot.{FreeSlot}
 use Rattle.checks.specs.declared.table.FreeSlot.the-variants as F
 use Rattle.checks.specs.Tables.{slotOf}
@@ -51,6 +59,20 @@ free-at slot e f = sym (ap slotOf f) ∙ e
 
 pub free-none : {free : FreeSlot} {lowest : Option ℕ} → slotOf free ≡ lowest → free ≡ F.Nothing → none ≡ lowest
 free-none e f = sym (ap slotOf f) ∙ e
+
+-- a block that is stored short shows in the memory, where it goes
+short-in-memory : (g : Geometry) (block : ℕ) (phase : Phase) (found : Lookup) → isShort phase found ≡ true → InMemory (spotOf g block found)
+unfolding spotOf spotIn
+short-in-memory g block = short-only (λ phase found. InMemory (spotOf g block found)) (λ i. in-memory (g .blocks + i)) (λ i. in-memory block)
+
+pub goes-there : (g : Geometry) (block slot : ℕ) (phase : Phase) (found : Lookup) (lowest : Option ℕ) (next : Move) {from : Spot}
+    → from ≡ spotOf g block found → (moveOf next ≡ moveIn phase (stores found)) × (shortOf next ≡ isShort phase found) → some slot ≡ slotFor found lowest
+    → shortOf next ≡ true → InMemory from × ((place : Place) (state : State) → moveOf next ≡ S.to place state → from ≡ spotIn g block slot place)
+goes-there g block slot phase found lowest next f m t h =
+    let short = sym (m .1) ∙ h in (
+      subst InMemory (sym f) (short-in-memory g block phase found short),
+      λ place state n. f ∙ short-shown g block slot phase found place state short (sym (m .0) ∙ n) (found-taken found lowest slot (sym t)),
+    )
 
 -- ---- 7 FULL
 
@@ -109,10 +131,10 @@ module _ (p : ℕ) (memory cache table : List ℕ) (controller : Controller) (bl
   abbrev carried : Lookup → Plan
   carried found =
       movedTo board block (slotFor found (lowestFree table)) (replaced (blockIn memory cache (spotOf (controller .geometry) block found)) offset bytes)
-      (moveIn (controller .phase) (stores found))
+      (windowFor (isShort (controller .phase) found) offset (length bytes)) (moveIn (controller .phase) (stores found))
 
   guarded : call p board (store block offset bytes) ≡ settle p board (guard (storeNumber board block offset bytes) (carried (lookup block table)))
-  unfolding call plan storePlan seen visible
+  unfolding call plan storePlan storeBy seen visible
   guarded = refl
 
   pub store-refused : {n : Number} {answer : Answer} → n ≡ storeNumber board block offset bytes → numberOf n ≢ 0 → answer ≡ refusedOf n controller
@@ -120,23 +142,25 @@ module _ (p : ℕ) (memory cache table : List ℕ) (controller : Controller) (bl
   store-refused {n} {answer} e ne a =
       guarded ∙ refused-is p memory cache table controller (carried (lookup block table)) n (storeNumber board block offset bytes) answer e ne a
 
-  pub store-goes : {found : Lookup} {slot : ℕ} {fresh : List ℕ} {next : S.Move} {outcome : Outcome}
+  pub store-goes : (next : Move) {found : Lookup} {slot : ℕ} {fresh : List ℕ} {outcome : Outcome}
       → numberOf (loadNumber board block offset (length bytes)) ≡ 0
       → found ≡ lookup block table
       → slotFor found (lowestFree table) ≡ some slot
       → fresh ≡ replaced (blockIn memory cache (spotOf (controller .geometry) block found)) offset bytes
-      → next ≡ moveIn (controller .phase) (stores found)
-      → settle p board (moved board block slot fresh next) ≡ outcome
+      → (moveOf next ≡ moveIn (controller .phase) (stores found)) × (shortOf next ≡ isShort (controller .phase) found)
+      → settle p board (moved board block slot fresh (windowFor (shortOf next) offset (length bytes)) (moveOf next)) ≡ outcome
       → call p board (store block offset bytes) ≡ outcome
   unfolding movedTo numberOf
-  store-goes {found} {slot} {fresh} {next} n e s f m q =
+  store-goes next {found} {slot} {fresh} n e s f m q =
       let row = moveIn (controller .phase) (stores found) in
+      let words = windowFor (isShort (controller .phase) found) offset (length bytes) in
       let built = replaced (blockIn memory cache (spotOf (controller .geometry) block found)) offset bytes in
       let room = not-full slot (ap (λ (z : Lookup). slotFor z (lowestFree table)) (sym e) ∙ s) in
       guarded
       ∙ guard-on p board (carried (lookup block table)) No.Done (storeNumber board block offset bytes) (store-done board block offset bytes n room) refl
       ∙ ap (λ (z : Lookup). settle p board (carried z)) (sym e)
-      ∙ ap (λ (z : Option ℕ). settle p board (movedTo board block z built row)) s
-      ∙ ap (λ (z : List ℕ). settle p board (moved board block slot z row)) (sym f)
-      ∙ ap (λ (z : S.Move). settle p board (moved board block slot fresh z)) (sym m)
+      ∙ ap (λ (z : Option ℕ). settle p board (movedTo board block z built words row)) s
+      ∙ ap (λ (z : List ℕ). settle p board (moved board block slot z words row)) (sym f)
+      ∙ ap (λ (z : Bool). settle p board (moved board block slot fresh (windowFor z offset (length bytes)) row)) (sym (m .1))
+      ∙ ap (λ (z : S.Move). settle p board (moved board block slot fresh (windowFor (shortOf next) offset (length bytes)) z)) (sym (m .0))
       ∙ q

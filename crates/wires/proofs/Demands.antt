@@ -12,20 +12,17 @@ use lib.Seq.{take-all}
 use borrow.Author.Tests.{eq-eqb, ne-eqb}
 use Rattle.words.specs.Words.{Store, lay}
 use Rattle.rules.specs.declared.Geometry.{Geometry}
-use Rattle.rules.specs.declared.Number.the-variants as No
-use Rattle.rules.specs.TableWords.{lookup, lowestFree}
-use Rattle.rules.specs.Board.{Board, sizes, phaseOf, tableOf}
-use Rattle.rules.specs.Numbers.{numberOf, isOff, _⇒_, outOfRange}
+use Rattle.rules.specs.Board.{Board, sizes, phaseOf}
+use Rattle.rules.specs.Numbers.{numberOf, isOff}
 use Rattle.rules.specs.Power.{stored}
-use Rattle.rules.specs.Loads.{seen}
-use Rattle.rules.specs.Stores.{replaced, stores, moveIn, slotFor, full, storeNumber, movedTo, storePlan}
+use Rattle.rules.proofs.Moves.{store-checked, store-stored}
 use Rattle.rules.specs.Calls.{Call, load, peek, store, begin, step, format, recover, plan, call}
 use Rattle.rules.specs.PlainMachine.{Picture, Plain, overlaid, laidOver, update, did, finish, hasMark, note}
 use Rattle.rules.specs.Runs.{Event, does, Run, afterFormat, fromSome, promised, doing, advance, runs, NoFormat, a-load, a-peek, a-store, a-begin, a-step, a-recover, runFrom}
 use Rattle.rules.specs.Promises.{RecoversTo, Demand3}
 use Rattle.rules.proofs.Clashes.{none-some}
-use Rattle.rules.proofs.Checked.{passed, common-passed, in-range}
-use Rattle.rules.proofs.Answers.{refused, guard-accepted}
+use Rattle.rules.proofs.Checked.{passed}
+use Rattle.rules.proofs.Answers.{refused}
 use Rattle.rules.proofs.Invariant.{Inv, did-not}
 use Rattle.rules.proofs.LiveShown.{inv-shows, load-accepted, live-whole, kept-whole}
 use Rattle.rules.proofs.Demand3.{Good, next, call-good, formatted-good, demand-3}
@@ -177,14 +174,9 @@ quiet-holds g w block run (does p c ∷ events) (and-then spares quiet) s = quie
 -- an accepted store passed the checks of the phase and of the range
 store-passed : (p : ℕ) (board : Board) (block offset : ℕ) (bytes : List ℕ) → numberOf (call p board (store block offset bytes) .number) ≡ 0
     → (isOff (phaseOf board) ≡ false) × (block < sizes board .blocks)
-unfolding call plan storePlan storeNumber
 store-passed p board block offset bytes e =
-    let slot = slotFor (lookup block (tableOf board)) (lowestFree (tableOf board)) in
-    let move = moveIn (phaseOf board) (stores (lookup block (tableOf board))) in
-    let a = guard-accepted p board (storeNumber board block offset bytes) (movedTo board block slot (replaced (seen board block) offset bytes) move) e in
-    let c = common-passed board false ((outOfRange board block offset (length bytes) ⇒ No.Range) ∷ (full slot ⇒ No.Full) ∷ []) (a .0) in
-    let r = in-range board block offset (length bytes) (passed (outOfRange board block offset (length bytes)) No.Range ((full slot ⇒ No.Full) ∷ []) (suc-ne-zero 5) (c .1) .0) in
-    (c .0 .awake, r .below)
+    let c = store-checked board block offset bytes (store-stored board block offset bytes p e .checked) in
+    (c .0 .awake, c .2 .below)
 
 -- bytes laid over a whole block
 over-whole : (block bytes : List ℕ) → length block ≡ length bytes → laidOver block bytes ≡ bytes

@@ -55,8 +55,8 @@ loop-again c =
     let a = c .before .before .before .before .before .before .before .before .before .args in
     let q = c .before .before .before .before .before .before .before .before .before .pre in
     let l = c .before .before .before .before .before .before .loop in
-    let e = built-more (now (a .part)) (now (a .bytes)) (8 * a .to) (q .1) (omega arith) (l .k) (omega arith) (l .inv .2) (c .before .before .put-word .ensures ∙ ap (put (l .part) (8 * a .to + l .k)) (c .before .before .before .before .eight-at .ensures)) in
-    (omega arith, ap length e ∙ built-length (now (a .part)) (now (a .bytes)) (8 * a .to) (q .1) (omega arith) (l .k + 1) (omega arith), e)
+    let e = built-more (now (a .part)) (now (a .bytes)) (8 * a .to) 8 (omega arith) (omega arith) (l .k) (omega arith) (l .inv .2) (c .before .before .put-word .ensures ∙ ap (put (l .part) (8 * a .to + l .k)) (c .before .before .before .before .eight-at .ensures)) in
+    (omega arith, ap length e ∙ built-length (now (a .part)) (now (a .bytes)) (8 * a .to) 8 (omega arith) (omega arith) (l .k + 1) (omega arith), e)
 
 -- src/lib.rt:143:1
 same-length : tie.Need-same-length Inv-loop μ-loop
@@ -69,7 +69,7 @@ returns c =
     let q = c .before .before .before .before .pre in
     let l = c .before .loop in
     let e : l .k ≡ 8 = omega arith in
-    built-all (now (a .part)) (now (a .bytes)) (8 * a .to) (q .1) (omega arith) 8 e (l .inv .2)
+    built-all (now (a .part)) (now (a .bytes)) (8 * a .to) 8 (omega arith) (omega arith) 8 e (l .inv .2)
 
 pub lay-whole-spec : {M : Type 1} → statement M
 lay-whole-spec =

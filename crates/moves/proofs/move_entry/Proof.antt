@@ -1,4 +1,4 @@
-use Rattle.rules.specs.Stores.{moveIn}
+use Rattle.rules.specs.Stores.{moveIn, isShort}
 use borrow.Author.Needs.{needs}
 use Rattle.moves.proofs.move_entry.Statement.{statement}
 use Rattle.moves.proofs.move_entry.Tie as tie
@@ -33,8 +33,8 @@ returns-2 c = λ slot. rw (c .before .enum-told2 .given .1) (c .move-writing .en
 
 -- src/lib.rt:44:1
 returns-3 : tie.Need-returns-3
-unfolding moveIn
-returns-3 c = λ slot. rw (c .enum-told3 .given .1)
+unfolding moveIn isShort
+returns-3 c = λ slot. (rw (c .enum-told3 .given .1), rw (c .enum-told3 .given .1))
 
 pub move-entry-spec : {M : Type 1} → statement M
 move-entry-spec =
