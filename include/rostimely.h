@@ -169,8 +169,8 @@ rostimely_answer rostimely_load(const uint8_t *memory, size_t memory_length, con
 /*
  * Lays 1 to 64 bytes into a block, from an offset on. The supply lasts for p words.
  *
- * Numbers: 0, 1 to 7, 12, 20. DONE stores no words while Writing. While Running it stores 8; a block that was stored
- * since the last begin (its entry is dirty or hidden) has only the words stored that the bytes touch, 1 to 8.
+ * Numbers: 0, 1 to 7, 12, 20. DONE stores no words while Writing, and 8 while Running; but where the entry is dirty or
+ * hidden (the block was stored while Running since the last begin, format or recovery) only those that the bytes touch.
  * DONE     while Running changes a block of the memory, while Writing one of the cache; and a word of the table.
  * CUT      changes the stored words and the record.
  * refused  changes nothing.
