@@ -2,7 +2,7 @@
 use mathlib.Core.Path.{_≡_, sym, ap, _∙_}
 use mathlib.Core.Logic.{_≢_}
 use mathlib.Core.Bool.{Bool, true, false, cond}
-use mathlib.Core.List.{List, []}
+use mathlib.Core.List.{List}
 use mathlib.Core.Option.{none, some}
 use Prim.Native.Nat.{ℕ, _+_, _*_, _-_, _≤_}
 use native.Mathlib.Omega.{arith}
@@ -19,9 +19,8 @@ use Rattle.rules.specs.declared.Number.the-variants as No
 use Rattle.rules.specs.declared.Registers.{Registers}
 use Rattle.rules.specs.declared.Registers.the-variants.{Saved, Absent}
 use Rattle.rules.specs.declared.Recovery.{Recovery}
-use Rattle.rules.specs.Geometry.{backupStart, backupWords, markStart}
+use Rattle.rules.specs.Geometry.{backupStart, backupWords, markStart, memoryWords}
 use Rattle.rules.specs.Starts.{finishedBy, hasRegisters, markIn, finishedIn, registersIn, savedRegisters, tableIn, sound, recorded, registersOf}
-use Rattle.checks.specs.Ready.{Ready}
 use Rattle.backups.specs.declared.Marked.{Marked}
 use Rattle.backups.specs.Marked.{backupOf}
 use Rattle.backups.specs.Records.{startedOf, openedOf, openedRecovery, refusedRecovery, Opens}
@@ -80,9 +79,9 @@ module _ (m : List ℕ) (a : ℕ) where
         ∙ x (words m (backupStart g backup) 8)
 
 -- a backup is inside the memory
-pub backup-inside : {g : Geometry} {m c t : List ℕ} {a : ℕ} (backup : Backup) → Ready g m c t → a ≡ backupStart g backup → 8 * a + 8 * backupWords g ≤ length m
-backup-inside A l e = omega (arith, l .memory)
-backup-inside B l e = omega (arith, l .memory)
+pub backup-inside : (g : Geometry) (m : List ℕ) {a : ℕ} (backup : Backup) → length m ≡ 8 * memoryWords g → a ≡ backupStart g backup → 8 * a + 8 * backupWords g ≤ length m
+backup-inside g m A l e = omega arith
+backup-inside g m B l e = omega arith
 
 -- ---- what going back to a backup leaves
 

@@ -12,10 +12,10 @@ pub begin-one : (p : ℕ) (board : Board) (registers : List ℕ) {answer answer�
     → call p board (begin registers) ≡ outcomeOf answer memory cache table
     → call p board (begin registers) ≡ outcomeOf answer′ memory′ cache′ table′
     → SameOutcome answer answer′ memory memory′ cache cache′ table table′
-begin-one p board registers = one-outcome p board (begin registers)
+begin-one p board registers = one-outcome
 
 pub step-one : (p : ℕ) (board : Board) (most : ℕ) {answer answer′ : Answer} {memory memory′ cache cache′ table table′ : List ℕ}
     → call p board (step most) ≡ outcomeOf answer memory cache table
     → call p board (step most) ≡ outcomeOf answer′ memory′ cache′ table′
     → SameOutcome answer answer′ memory memory′ cache cache′ table table′
-step-one p board most = one-outcome p board (step most)
+step-one p board most = one-outcome

@@ -1,6 +1,6 @@
 // The answers that a call gives, and the record after a loss of supply (document 01, Power).
 ghost use mathlib.Core.Path.{_≡_};
-ghost use Rattle.checks.specs.Answers.{answerOf, offOf, refusedOf};
+ghost use Rattle.checks.specs.Answers.{answerOf, endedOf, offOf, refusedOf};
 use rules::Answer;
 use rules::Controller;
 use rules::Number;
@@ -36,4 +36,15 @@ pub fn refused(number: Number, controller: Controller) -> Answer
     ensures { λ r. ⌜ r ≡ refusedOf number controller ⌝ }
 {
     reply(number, 0, controller)
+}
+
+// The end of a list of so many words that leaves the record as it was: only a cut changes it.
+pub fn ended(words: usize, controller: Controller, p: usize) -> Answer
+    ensures { λ r. ⌜ r ≡ endedOf p words controller ⌝ }
+{
+    if p < words {
+        let off = switched_off(controller);
+        return reply(Number::Cut, p, off);
+    }
+    reply(Number::Done, words, controller)
 }

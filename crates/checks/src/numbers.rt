@@ -29,6 +29,8 @@ pub fn number_of(number: Number) -> u64
         Number::Idle => 9,
         Number::NoCheckpoint => 10,
         Number::Backup => 11,
+        Number::NoHeader => 13,
+        Number::WrongBoard => 14,
         Number::Cut => 20,
     }
 }

@@ -9,7 +9,7 @@ use Rattle.rules.specs.declared.Phase.{Phase}
 use Rattle.rules.specs.declared.Phase.the-variants.{Running, Writing, Off}
 use Rattle.rules.specs.declared.Controller.{Controller}
 use Rattle.rules.specs.Checkpoints.{countOf}
-use Rattle.fields.specs.Fields.{bigEndian, Field, fieldsOf}
+use Rattle.fields.specs.Fields.{bigEndian, Field, _holds_, fieldsOf}
 
 -- finished backup, 1 or 2
 abbrev pub backupByte : Backup → ℕ
@@ -21,10 +21,6 @@ abbrev pub phaseByte : Phase → ℕ
 phaseByte Running = 0
 phaseByte (Writing count) = 1
 phaseByte Off = 2
-
-infix 20 _holds_
-abbrev _holds_ : ℕ → List ℕ → Field
-tag holds value = record { tag = tag; value = value }
 
 -- tag 1 N (2); 2 B (2); 3 the registers (64); 4 finished backup (1); 5 phase (1); 6 count (2), 0 unless Writing
 unfoldable pub fieldsIn : Controller → List Field

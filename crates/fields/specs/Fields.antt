@@ -20,6 +20,10 @@ pub record Field : Type 0 where
   pub tag : ℕ
   pub value : List ℕ
 
+infix 20 _holds_
+abbrev pub _holds_ : ℕ → List ℕ → Field
+tag holds value = record { tag = tag; value = value }
+
 -- one field after another
 unfoldable pub fieldsOf : List Field → List ℕ
 unfolding field

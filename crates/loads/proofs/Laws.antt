@@ -50,6 +50,8 @@ done-is No.Busy e = absurd (suc-ne-zero 7 e)
 done-is No.Idle e = absurd (suc-ne-zero 8 e)
 done-is No.NoCheckpoint e = absurd (suc-ne-zero 9 e)
 done-is No.Backup e = absurd (suc-ne-zero 10 e)
+done-is No.NoHeader e = absurd (suc-ne-zero 12 e)
+done-is No.WrongBoard e = absurd (suc-ne-zero 13 e)
 done-is No.Cut e = absurd (suc-ne-zero 19 e)
 
 only-reads : (p : ℕ) (board : Board) (n : Number) (gives : List ℕ) → settle p board (guard n (carry [] (board .volatile) gives)) ≡ readOf board n gives

@@ -3,7 +3,7 @@ use mathlib.Core.Path.{_≡_, refl, sym, ap, _∙_}
 use mathlib.Core.Logic.{_≢_}
 use mathlib.Core.Bool.{Bool, true, false, cond}
 use mathlib.Core.List.{List, []}
-use Prim.Native.Nat.{ℕ, _-_}
+use Prim.Native.Nat.{ℕ}
 use native.Mathlib.Omega.{arith}
 use native.Mathlib.Nat.{suc-ne-zero}
 use lib.Dec.{eqb, leb, leb·zero}
@@ -27,11 +27,11 @@ pub record SameOutcome (answer answer′ : Answer) (memory memory′ cache cache
   pub caches : cache ≡ cache′
   pub tables : table ≡ table′
 
--- A contract that gives the outcome as an equation with `call` leaves one outcome; each public call's uniqueness cites this.
-pub one-outcome : (p : ℕ) (board : Board) (c : Call) {answer answer′ : Answer} {memory memory′ cache cache′ table table′ : List ℕ}
-    → call p board c ≡ outcomeOf answer memory cache table → call p board c ≡ outcomeOf answer′ memory′ cache′ table′
+-- A contract that gives the outcome as an equation leaves one; each public call's uniqueness cites this.
+pub one-outcome : {outcome : Outcome} {answer answer′ : Answer} {memory memory′ cache cache′ table table′ : List ℕ}
+    → outcome ≡ outcomeOf answer memory cache table → outcome ≡ outcomeOf answer′ memory′ cache′ table′
     → SameOutcome answer answer′ memory memory′ cache cache′ table table′
-one-outcome p board c {answer} {answer′} {memory} {memory′} {cache} {cache′} {table} {table′} a b =
+one-outcome {outcome} {answer} {answer′} {memory} {memory′} {cache} {cache′} {table} {table′} a b =
     let e : outcomeOf answer memory cache table ≡ outcomeOf answer′ memory′ cache′ table′ = sym a ∙ b in
     record {
       answers = ap (λ (o : Outcome). record { number = o .number; words = o .words; controller = o .board .volatile .controller }) e;
@@ -40,28 +40,31 @@ one-outcome p board c {answer} {answer′} {memory} {memory′} {cache} {cache�
       tables = ap (λ (o : Outcome). tableOf (o .board)) e;
     }
 
--- ---- refusals: 1 to 11
+-- ---- refusals: 1 to 11, 13 and 14
 
 pub record Nothing-changed (board : Board) (outcome : Outcome) : Type 0 where
   pub same : outcome .board ≡ board
   pub no-words : outcome .words ≡ 0
   pub no-bytes : outcome .gives ≡ []
 
+-- of any plan that is neither carried out nor cut
+pub settled-refused : (p : ℕ) (board : Board) (q : Plan) → numberOf (settle p board q .number) ≢ 0 → numberOf (settle p board q .number) ≢ 20
+    → Nothing-changed board (settle p board q)
+unfolding settle numberOf
+settled-refused p board (refuse n) a b = record { same = refl; no-words = refl; no-bytes = refl }
+settled-refused p board (carry ws after gives) a b = either (leb (length ws) p) a b
+  where
+    out : Bool → Outcome
+    out t = cond t (whole board ws after gives) (cut p board ws after)
+
+    either : (t : Bool) → numberOf (out t .number) ≢ 0 → numberOf (out t .number) ≢ 20 → Nothing-changed board (out t)
+    either true a b = absurd (a refl)
+    either false a b = absurd (b refl)
+
 pub refused : (p : ℕ) (board : Board) (c : Call) → numberOf (call p board c .number) ≢ 0 → numberOf (call p board c .number) ≢ 20
     → Nothing-changed board (call p board c)
-unfolding call settle numberOf
-refused p board c = go (plan board c)
-  where
-    go : (q : Plan) → numberOf (settle p board q .number) ≢ 0 → numberOf (settle p board q .number) ≢ 20 → Nothing-changed board (settle p board q)
-    go (refuse n) a b = record { same = refl; no-words = refl; no-bytes = refl }
-    go (carry ws after gives) a b = either (leb (length ws) p) a b
-      where
-        out : Bool → Outcome
-        out t = cond t (whole board ws after gives) (cut p board ws after)
-
-        either : (t : Bool) → numberOf (out t .number) ≢ 0 → numberOf (out t .number) ≢ 20 → Nothing-changed board (out t)
-        either true a b = absurd (a refl)
-        either false a b = absurd (b refl)
+unfolding call
+refused p board c = settled-refused p board (plan board c)
 
 -- ---- the words
 

@@ -180,7 +180,7 @@ good-recovers g run plain v = subst (λ (h : Geometry). RecoversTo h (plain .kep
           in-record = ap recorded (v .inv .kept .given);
         })
 
-own-lengths : (g : Geometry) (run : Run) (plain : Plain) → Good g run plain → Lengths g (run .board .volatile)
+pub own-lengths : (g : Geometry) (run : Run) (plain : Plain) → Good g run plain → Lengths g (run .board .volatile)
 own-lengths g run plain v =
     subst (λ (h : Geometry). Lengths h (run .board .volatile)) (v .same) (record { cache = v .inv .lent .cache; table = v .inv .lent .table })
 

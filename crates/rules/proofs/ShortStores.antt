@@ -1,7 +1,7 @@
 -- Document 02, No. 5: a store that finds dirty or hidden stores the words that its bytes touch, and leaves what all 8 leave.
 use mathlib.Core.Path.{_≡_, refl, sym, ap, _∙_}
 use mathlib.Core.Logic.{_≢_, _↔_}
-use mathlib.Core.Bool.{false}
+use mathlib.Core.Bool.{Bool, false}
 use mathlib.Core.Option.{Option, none, some}
 use mathlib.Core.List.{List}
 use Prim.Native.Nat.{ℕ, _+_, _≤_, _<_, min}
@@ -10,7 +10,7 @@ use lib.ListN.{length, set, take, length-take}
 use borrow.Author.Tests.{eq-eqb}
 use Rattle.words.specs.Words.{bytesTo}
 use Rattle.rules.specs.declared.Phase.{Phase}
-use Rattle.rules.specs.declared.Phase.the-variants.{Running}
+use Rattle.rules.specs.declared.Phase.the-variants.{Running, Writing, Off}
 use Rattle.rules.specs.declared.State.{State}
 use Rattle.rules.specs.declared.State.the-variants.{Clean, Dirty, Hidden, PreHidden, PreDirty}
 use Rattle.rules.specs.declared.Lookup.{Lookup}
@@ -26,7 +26,7 @@ use Rattle.rules.specs.Power.{Plan, guard, settle, stored}
 use Rattle.rules.specs.Loads.{Spot, inMemory, inCache, spotIn, shows, spotOf, seen}
 use Rattle.rules.specs.Stores.{replaced, Move, to, stores, moveIn, slotFor, full, storeNumber, all, touched, dirtyOrHidden, isShort, windowFor, windowTo, layAt, moved, movedTo, storeBy, storePlan}
 use Rattle.rules.specs.Calls.{store, plan, call}
-use Rattle.rules.specs.Promises.{Touches, ShortList, DirtyOrHidden, is-dirty, is-hidden, ShortStores, EightElsewhere, SameBytes}
+use Rattle.rules.specs.Promises.{Touches, ShortList, DirtyOrHidden, is-dirty, is-hidden, ShortStores, PlanElsewhere, EightElsewhere, SameBytes}
 use Rattle.rules.proofs.Clashes.{false-true}
 use Rattle.rules.proofs.Checked.{InRange}
 use Rattle.rules.proofs.LaidAt.{all-whole}
@@ -70,7 +70,7 @@ module _ (board : Board) (block offset : ℕ) (bytes : List ℕ) where
       → ShortList board block offset bytes
   unfolding plan storePlan storeBy spotOf
   short slot q state run found e r s l = record {
-    q = q;
+    place = q;
     shown = ap (spotOf (sizes board) block) found ∙ s;
     window = touched offset (length bytes);
     some-word = touched-some offset (length bytes) (r .some);
@@ -136,6 +136,24 @@ module _ (board : Board) (block offset : ℕ) (bytes : List ℕ) where
       ∙ ap (λ (z : Option ℕ). movedTo board block z fresh all (moveIn (phaseOf board) (stores (lookup block table)))) (s .takes)
       ∙ ap (λ (z : Move). moved board block (s .slot) fresh all z) (s .moves))
       ∙ laid-board board block offset bytes 8 (s .slot) (s .place) (s .state) all whole (eight-accepted (s .slot) (s .place) (s .state)))
+
+-- what decides on a short list is the phase and the entry found
+not-short : (phase : Phase) (found : Lookup) → ((slot : ℕ) (state : State) → phase ≡ Running → DirtyOrHidden state → found ≢ Entry slot state)
+    → isShort phase found ≡ false
+unfolding isShort dirtyOrHidden
+not-short Running Nothing ne = refl
+not-short Running (Entry slot Clean) ne = refl
+not-short Running (Entry slot Dirty) ne = absurd (ne slot Dirty refl is-dirty refl)
+not-short Running (Entry slot Hidden) ne = absurd (ne slot Hidden refl is-hidden refl)
+not-short Running (Entry slot PreHidden) ne = refl
+not-short Running (Entry slot PreDirty) ne = refl
+not-short (Writing count) found ne = refl
+not-short Off found ne = refl
+
+pub plan-elsewhere : PlanElsewhere
+unfolding PlanElsewhere plan storePlan windowFor
+plan-elsewhere board block offset bytes ne =
+    ap (λ (short : Bool). storeBy (windowFor short offset (length bytes)) board block offset bytes) (not-short (phaseOf board) (lookup block (tableOf board)) ne)
 
 pub short-stores : ShortStores
 unfolding ShortStores

@@ -15,7 +15,7 @@ use Rattle.rules.specs.Geometry.{memoryWords}
 use Rattle.rules.specs.TableWords.{Says, free, names, neither, says, every}
 use Rattle.rules.specs.Board.{Board, sizes, phaseOf, cacheOf, tableOf}
 
--- the paper's number for each case of the enum
+-- the paper's number for each case of the enum; 13 and 14 are those of the new stored form (document 02, No. 6)
 unfoldable pub numberOf : Number → ℕ
 numberOf No.Done = 0
 numberOf No.Geometry = 1
@@ -29,6 +29,8 @@ numberOf No.Busy = 8
 numberOf No.Idle = 9
 numberOf No.NoCheckpoint = 10
 numberOf No.Backup = 11
+numberOf No.NoHeader = 13
+numberOf No.WrongBoard = 14
 numberOf No.Cut = 20
 
 -- a check: where its condition holds, its number

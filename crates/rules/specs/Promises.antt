@@ -185,13 +185,14 @@ Touches offset len k = (8 * k < offset + len) × (offset < 8 * k + 8)
 
 -- a store whose list has the words that its bytes touch, and no others: 1 to 8 words of the new block, where the old one shows
 pub record ShortList (board : Board) (block offset : ℕ) (bytes : List ℕ) : Type 0 where
-  pub q : ℕ
-  pub shown : spotOf (sizes board) block (lookup block (tableOf board)) ≡ inMemory q
+  -- the block of the memory where the block shows
+  pub place : ℕ
+  pub shown : spotOf (sizes board) block (lookup block (tableOf board)) ≡ inMemory place
   pub window : Window
   pub some-word : 1 ≤ window .count
   pub at-most-eight : window .count ≤ 8
   pub touched : (k : ℕ) → ((window .first ≤ k) × (k < window .first + window .count)) ↔ Touches offset (length bytes) k
-  pub list : (p : ℕ) → stored p (plan board (store block offset bytes)) ≡ take p (windowTo q window (replaced (seen board block) offset bytes))
+  pub list : (p : ℕ) → stored p (plan board (store block offset bytes)) ≡ take p (windowTo place window (replaced (seen board block) offset bytes))
 
 pub data DirtyOrHidden : State → Type 0 where
   is-dirty : DirtyOrHidden Dirty
@@ -207,7 +208,14 @@ ShortStores =
     → numberOf (storeNumber board block offset bytes) ≡ 0
     → ShortList board block offset bytes
 
--- every other store while Running has 8 words, of which the supply stores the first p
+-- every other store, while Writing too, has document 01's plan, of all 8 words
+unfoldable pub PlanElsewhere : Type 0
+PlanElsewhere =
+    (board : Board) (block offset : ℕ) (bytes : List ℕ)
+    → ((slot : ℕ) (state : State) → phaseOf board ≡ Running → DirtyOrHidden state → lookup block (tableOf board) ≢ Entry slot state)
+    → plan board (store block offset bytes) ≡ storeBy all board block offset bytes
+
+-- while Running these are 8 words, of which the supply stores the first p
 unfoldable pub EightElsewhere : Type 0
 EightElsewhere =
     (p : ℕ) (board : Board) (block offset : ℕ) (bytes : List ℕ)

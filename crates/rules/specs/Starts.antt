@@ -22,8 +22,8 @@ use Rattle.rules.specs.declared.Registers.the-variants.{Saved, Absent}
 use Rattle.rules.specs.declared.Recovery.{Recovery}
 use Rattle.rules.specs.Geometry.{homeStart, homeWords, backupStart, backupWords, markStart, homeBlock, checkpointBlock}
 use Rattle.rules.specs.TableWords.{lookup, distinct, every}
-use Rattle.rules.specs.Board.{Board, cacheOf, boardOf}
-use Rattle.rules.specs.Numbers.{_⇒_, firstOf, outside, inexact, wellFormed}
+use Rattle.rules.specs.Board.{Board, Volatile, cacheOf, boardOf}
+use Rattle.rules.specs.Numbers.{Check, _⇒_, firstOf, outside, inexact, wellFormed}
 use Rattle.rules.specs.Power.{Plan, refuse, carry, guard, Outcome}
 
 -- ---- format: mark 0; HOME all fill; A's registers 0; A's table 0; mark 3 (document 02, No. 2)
@@ -42,17 +42,17 @@ unfoldable pub formatNumber : Board → Geometry → Number
 unfolding firstOf outside inexact
 formatNumber board g = firstOf ((outside g ⇒ No.Geometry) ∷ (inexact g board ⇒ No.Buffer) ∷ [])
 
+-- the table is then all 0; the record holds the sizes given, registers 0, A finished, Running; CACHE is untouched
+abbrev pub formattedSide : Board → Geometry → Volatile
+formattedSide board g = record {
+  cache = cacheOf board;
+  table = replicate (g .slots) 0;
+  controller = record { geometry = g; registers = replicate 64 0; finished = A; phase = Running };
+}
+
 unfoldable pub formatPlan : Board → Geometry → ℕ → Plan
 unfolding guard formatNumber formatList
-formatPlan board g fill =
-    guard (formatNumber board g)
-    (carry (formatList g fill)
-    (record {
-      cache = cacheOf board;
-      table = replicate (g .slots) 0;
-      controller = record { geometry = g; registers = replicate 64 0; finished = A; phase = Running };
-    })
-    [])
+formatPlan board g fill = guard (formatNumber board g) (carry (formatList g fill) (formattedSide board g) [])
 
 -- ---- what a recovery reads
 
@@ -109,15 +109,13 @@ unsound g memory (some backup) = not (sound g (tableIn g memory backup))
 
 -- ---- recovery
 
+-- that the board recovers, its sizes and lengths passed
+abbrev pub recoveryChecks : Board → Geometry → Option Backup → List Check
+recoveryChecks board g finished = (noCheckpoint finished ⇒ No.NoCheckpoint) ∷ (unsound g (board .memory) finished ⇒ No.Backup) ∷ []
+
 unfoldable pub recoverNumber : Board → Geometry → Option Backup → Number
 unfolding firstOf outside inexact noCheckpoint unsound
-recoverNumber board g finished =
-    firstOf
-    ((outside g ⇒ No.Geometry)
-    ∷ (inexact g board ⇒ No.Buffer)
-    ∷ (noCheckpoint finished ⇒ No.NoCheckpoint)
-    ∷ (unsound g (board .memory) finished ⇒ No.Backup)
-    ∷ [])
+recoverNumber board g finished = firstOf ((outside g ⇒ No.Geometry) ∷ (inexact g board ⇒ No.Buffer) ∷ recoveryChecks board g finished)
 
 -- where there are no registers none are handed out, and the record's are 0
 unfoldable pub handedOut : Option (List ℕ) → List ℕ

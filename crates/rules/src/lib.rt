@@ -132,6 +132,9 @@ pub enum Number {
     Idle,
     NoCheckpoint,
     Backup,
+    // of the new stored form alone (document 02, No. 6)
+    NoHeader,
+    WrongBoard,
     Cut,
 }
 

@@ -21,7 +21,7 @@ use Rattle.rules.specs.Geometry.{homeStart, homeWords, backupStart, backupWords
 use Rattle.rules.specs.Board.{boardOf}
 use Rattle.rules.specs.Numbers.{numberOf}
 use Rattle.rules.specs.Power.{carry, settle, outcomeOf}
-use Rattle.rules.specs.Starts.{formatList, formatNumber, formatPlan}
+use Rattle.rules.specs.Starts.{formatList, formatNumber, formattedSide, formatPlan}
 use Rattle.rules.specs.Calls.{plan, call, format}
 use Rattle.checks.specs.Answers.{answerOf, refusedOf}
 use Rattle.checks.proofs.Settled.{refused-is, guard-on, cut-sized, whole-is}
@@ -101,27 +101,29 @@ cleared t i e = rw (e, drop-length t) (append-nil (replicate (length t) 0))
 
 -- ---- the call
 
+-- how a format ends whose list has so many words: the answer, and the table after it
+pub data FormatEnds (p words : ℕ) (controller : Controller) (g : Geometry) (table : List ℕ) (answer : Answer) (table′ : List ℕ) : Type 0 where
+  cut : p < words → answer ≡ answerOf No.Cut p (cutShortOf controller g) → table′ ≡ table → FormatEnds p words controller g table answer table′
+  done :
+      words ≤ p → answer ≡ answerOf No.Done words (startedOf g A (replicate 64 0)) → table′ ≡ replicate (length table) 0
+      → FormatEnds p words controller g table answer table′
+
+-- a format of any list that was laid and counted, its checks passed
+pub format-settles : (p : ℕ) (m c t : List ℕ) (k : Controller) (g : Geometry) (stores : List Store) {m′ t′ : List ℕ} {r words : ℕ} {answer : Answer}
+    → Lays p stores m m′ r → words ≡ length stores → length t ≡ g .slots → FormatEnds p words k g t answer t′
+    → settle p (boardOf m c t k) (carry stores (formattedSide (boardOf m c t k) g) []) ≡ outcomeOf answer m′ c t′
+format-settles p m c t k g stores {m′} {words = words} {answer = answer} laid w l (cut h q e) =
+    cut-sized p m c t k stores m′ words (record { words = w; bytes = laid .bytes }) answer _ h q ∙ ap (outcomeOf answer m′ c) (sym e)
+format-settles p m c t k g stores {m′} {words = words} {answer = answer} laid w l (done h q e) =
+    whole-is p m c t k stores m′ words (record { words = w; bytes = laid .bytes }) answer c (replicate (g .slots) 0) (startedOf g A (replicate 64 0)) h q
+    ∙ ap (outcomeOf answer m′ c) (sym (e ∙ ap (λ (n : ℕ). replicate n 0) l))
+
 module _ (p : ℕ) (m c t : List ℕ) (k : Controller) (g : Geometry) (fill : ℕ) (n : Number) (e : n ≡ formatNumber (boardOf m c t k) g) where
   pub format-refused : {answer : Answer} → numberOf n ≢ 0 → answer ≡ refusedOf n k → call p (boardOf m c t k) (format g fill) ≡ outcomeOf answer m c t
   unfolding call plan formatPlan
   format-refused ne q = refused-is p m c t k _ n _ _ e ne q
 
-  module _ (z : numberOf n ≡ 0) where
-    goes : call p (boardOf m c t k) (format g fill)
-        ≡ settle p (boardOf m c t k) (carry (formatList g fill) (record { cache = c; table = replicate (g .slots) 0; controller = startedOf g A (replicate 64 0) }) [])
-    unfolding call plan formatPlan
-    goes = guard-on p (boardOf m c t k) _ n _ e z
-
-    module _ {m′ : List ℕ} {r words : ℕ} (laid : Lays p (formatList g fill) m m′ r) (w : words ≡ length (formatList g fill)) where
-      same : Lays p (formatList g fill) m m′ words
-      same = record { words = w; bytes = laid .bytes }
-
-      pub format-cut : {answer : Answer} → p < words → answer ≡ answerOf No.Cut p (cutShortOf k g) → call p (boardOf m c t k) (format g fill) ≡ outcomeOf answer m′ c t
-      format-cut {answer} h q = goes ∙ cut-sized p m c t k (formatList g fill) m′ words same answer _ h q
-
-      pub format-whole : {answer : Answer} {t′ : List ℕ} → words ≤ p → t′ ≡ replicate (g .slots) 0 → answer ≡ answerOf No.Done words (startedOf g A (replicate 64 0))
-          → call p (boardOf m c t k) (format g fill) ≡ outcomeOf answer m′ c t′
-      format-whole {answer} {t′} h y q =
-          goes
-          ∙ whole-is p m c t k (formatList g fill) m′ words same answer c (replicate (g .slots) 0) (startedOf g A (replicate 64 0)) h q
-          ∙ ap (outcomeOf answer m′ c) (sym y)
+  pub format-goes : {m′ t′ : List ℕ} {r words : ℕ} {answer : Answer} → numberOf n ≡ 0 → Lays p (formatList g fill) m m′ r → words ≡ length (formatList g fill)
+      → length t ≡ g .slots → FormatEnds p words k g t answer t′ → call p (boardOf m c t k) (format g fill) ≡ outcomeOf answer m′ c t′
+  unfolding call plan formatPlan
+  format-goes z laid w l ends = guard-on p (boardOf m c t k) _ n _ e z ∙ format-settles p m c t k g (formatList g fill) laid w l ends

@@ -4,14 +4,13 @@ use mathlib.Core.Logic.{_≢_}
 use mathlib.Core.Bool.{Bool, true, false, not, cond}
 use mathlib.Core.List.{List, [], _∷_}
 use mathlib.Core.Option.{Option, none, some}
-use Prim.Native.Nat.{ℕ, _*_, _-_}
+use Prim.Native.Nat.{ℕ, _*_}
 use native.Mathlib.Nat.{suc-ne-zero}
 use lib.ListN.{length}
 use Rattle.words.specs.Words.{words, lay, number, numbers}
 use Rattle.words.proofs.All.{All, done, also}
 use Rattle.rules.specs.declared.Geometry.{Geometry}
 use Rattle.rules.specs.declared.Backup.{Backup}
-use Rattle.rules.specs.declared.Backup.the-variants.{A}
 use Rattle.rules.specs.declared.Controller.{Controller}
 use Rattle.rules.specs.declared.Number.{Number}
 use Rattle.rules.specs.declared.Number.the-variants as No
@@ -36,7 +35,7 @@ use Rattle.backups.proofs.Opening.{from, table-in, registers-in}
 -- ---- what a recovery says of an outcome
 
 -- a refusal hands out nothing, and says that there are no registers
-refused-says : {m c t : List ℕ} {k : Controller} {outcome : Outcome} {r : Recovery} (refusal : Number)
+pub refused-says : {m c t : List ℕ} {k : Controller} {outcome : Outcome} {r : Recovery} (refusal : Number)
     → r ≡ refusedRecovery refusal k → outcome ≡ outcomeOf (refusedOf refusal k) m c t → Recovered outcome r m c t
 unfolding registersGiven
 refused-says {m} {c} {t} {k} {outcome} refusal q o =

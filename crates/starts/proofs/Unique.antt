@@ -9,7 +9,7 @@ use Rattle.rules.specs.declared.Registers.{Registers}
 use Rattle.rules.specs.declared.Registers.the-variants.{Saved, Absent}
 use Rattle.rules.specs.declared.Recovery.{Recovery}
 use Rattle.rules.specs.Board.{Board, cacheOf, tableOf}
-use Rattle.rules.specs.Power.{outcomeOf}
+use Rattle.rules.specs.Power.{Outcome, outcomeOf}
 use Rattle.rules.specs.Starts.{registersOf, Recovered}
 use Rattle.rules.specs.Calls.{format, recover, call}
 use Rattle.rules.proofs.Clashes.{none-some}
@@ -19,7 +19,7 @@ pub format-one : (p : ℕ) (board : Board) (g : Geometry) (fill : ℕ) {answer a
     → call p board (format g fill) ≡ outcomeOf answer memory cache table
     → call p board (format g fill) ≡ outcomeOf answer′ memory′ cache′ table′
     → SameOutcome answer answer′ memory memory′ cache cache′ table table′
-format-one p board g fill = one-outcome p board (format g fill)
+format-one p board g fill = one-outcome
 
 -- two recoveries, with all that they leave in the lent memory
 pub record SameRecovery (r r′ : Recovery) (memory memory′ cache cache′ table table′ : List ℕ) : Type 0 where
@@ -36,21 +36,28 @@ registers-one Saved Absent bytes e = absurd (none-some bytes (sym e))
 registers-one Absent Saved bytes e = absurd (none-some bytes e)
 registers-one Absent Absent bytes e = refl
 
-pub recover-one : (board : Board) (g : Geometry) {r r′ : Recovery} {memory memory′ cache cache′ table table′ : List ℕ}
-    → ((p : ℕ) → Recovered (call p board (recover g)) r memory cache table)
-    → ((p : ℕ) → Recovered (call p board (recover g)) r′ memory′ cache′ table′)
+-- a contract that gives a recovery's outcome leaves one
+pub one-recovery : {outcome : Outcome} {r r′ : Recovery} {memory memory′ cache cache′ table table′ : List ℕ}
+    → Recovered outcome r memory cache table
+    → Recovered outcome r′ memory′ cache′ table′
     → SameRecovery r r′ memory memory′ cache cache′ table table′
-recover-one board g {r} {r′} a b =
-    let boards = a 0 .board ∙ sym (b 0 .board) in
-    let number : r .answer .number ≡ r′ .answer .number = a 0 .number ∙ sym (b 0 .number) in
-    let words : r .answer .words ≡ r′ .answer .words = a 0 .words ∙ sym (b 0 .words) in
+one-recovery {outcome} {r} {r′} a b =
+    let boards = a .board ∙ sym (b .board) in
+    let number : r .answer .number ≡ r′ .answer .number = a .number ∙ sym (b .number) in
+    let words : r .answer .words ≡ r′ .answer .words = a .words ∙ sym (b .words) in
     let controller : r .answer .controller ≡ r′ .answer .controller = ap (λ (z : Board). z .volatile .controller) boards in
     record {
       answers = λ i. record { number = number i; words = words i; controller = controller i };
       registers =
           registers-one (r .registers) (r′ .registers) (r .answer .controller .registers)
-          (a 0 .registers ∙ sym (b 0 .registers) ∙ ap (λ (z : Controller). registersOf (r′ .registers) (z .registers)) (sym controller));
+          (a .registers ∙ sym (b .registers) ∙ ap (λ (z : Controller). registersOf (r′ .registers) (z .registers)) (sym controller));
       memories = ap (λ (z : Board). z .memory) boards;
       caches = ap (λ (z : Board). cacheOf z) boards;
       tables = ap (λ (z : Board). tableOf z) boards;
     }
+
+pub recover-one : (board : Board) (g : Geometry) {r r′ : Recovery} {memory memory′ cache cache′ table table′ : List ℕ}
+    → ((p : ℕ) → Recovered (call p board (recover g)) r memory cache table)
+    → ((p : ℕ) → Recovered (call p board (recover g)) r′ memory′ cache′ table′)
+    → SameRecovery r r′ memory memory′ cache cache′ table table′
+recover-one board g a b = one-recovery (a 0) (b 0)

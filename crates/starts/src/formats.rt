@@ -23,7 +23,7 @@ pub fn format_words(g: Geometry) -> usize
 }
 
 pub fn lay_mark(memory: &mut [u8], g: Geometry, mark: u64, p: usize) -> usize
-    requires { ⌜ length (now memory) ≡ 8 * memoryWords g ⌝ }
+    requires { ⌜ 8 * memoryWords g ≤ length (now memory) ⌝ }
     ensures { λ r. ⌜ Lays p (numbersTo (markStart g) (mark ∷ [])) (now (memory .entry)) (now (memory .exit)) r ⌝ }
 {
     let start = 8 * g.mark_start();
@@ -39,7 +39,7 @@ pub fn lay_fill(memory: &mut [u8], place: usize, count: usize, fill: u8, p: usiz
 }
 
 pub fn lay_format(memory: &mut [u8], g: Geometry, fill: u8, p: usize) -> usize
-    requires { ⌜ length (now memory) ≡ 8 * memoryWords g ⌝ }
+    requires { ⌜ 8 * memoryWords g ≤ length (now memory) ⌝ }
     ensures { λ r. ⌜ Lays p (formatList g fill) (now (memory .entry)) (now (memory .exit)) r ⌝ }
 {
     let home = g.home_start();

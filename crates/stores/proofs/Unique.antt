@@ -14,7 +14,7 @@ pub store-one : (p : ℕ) (board : Board) (block offset : ℕ) (bytes : List ℕ
     → call p board (store block offset bytes) ≡ outcomeOf answer memory cache table
     → call p board (store block offset bytes) ≡ outcomeOf answer′ memory′ cache′ table′
     → SameOutcome answer answer′ memory memory′ cache cache′ table table′
-store-one p board block offset bytes = one-outcome p board (store block offset bytes)
+store-one p board block offset bytes = one-outcome
 
 pub number-one : (board : Board) (block offset : ℕ) (bytes : List ℕ) {n n′ : Number}
     → n ≡ storeNumber board block offset bytes → n′ ≡ storeNumber board block offset bytes → n ≡ n′

@@ -9,6 +9,7 @@ use rules::Backup;
 use rules::Controller;
 use rules::Geometry;
 use rules::Phase;
+use starts::formats::clear_table;
 use words::lay_number;
 
 // The lengths lent: bytes of the memory, bytes of CACHE, words of the table.
@@ -68,7 +69,7 @@ pub fn fresh(g: Geometry) -> Bench {
 fn set_board(memory: &mut [u8], cache: &mut [u8], table: &mut [u64], line: &[u8]) -> Bench {
     count_up(memory, 8, 0);
     count_up(cache, 8, 128);
-    put_table(table, 0, 0, 0);
+    clear_table(table);
     fresh(sizes_in(line))
 }
 

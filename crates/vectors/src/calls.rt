@@ -1,6 +1,7 @@
 // The calls of the board, made by a line of the case file on what is lent.
 use crate::bench::count_up;
 use crate::bench::sizes_in;
+use crate::forms;
 use crate::print;
 use crate::text::byte_at;
 use crate::text::named;
@@ -8,7 +9,6 @@ use crate::text::size_at;
 use crate::wiring;
 use board::Answer;
 use board::Controller;
-use board::Registers;
 use checks::numbers::number_of;
 use words::least;
 
@@ -58,7 +58,6 @@ fn begin(
     board::begin(memory, cache, table, controller, &space[0..len], p)
 }
 
-// Whether there are registers, then the answer.
 fn recover(
     memory: &[u8],
     cache: &[u8],
@@ -69,10 +68,7 @@ fn recover(
     let g = sizes_in(line);
     let recovery = board::recover(memory, cache, table, controller, g);
     let registers = recovery.registers;
-    match registers {
-        Registers::Saved => print::text(b" saved,"),
-        Registers::Absent => print::text(b" absent,"),
-    }
+    print::existence(registers);
     recovery.answer
 }
 
@@ -83,6 +79,7 @@ pub fn is_call(line: &[u8]) -> bool {
         || named(line, b"step")
         || named(line, b"format")
         || named(line, b"recover")
+        || forms::is_call(line)
 }
 
 pub fn answer_to(
@@ -113,7 +110,10 @@ pub fn answer_to(
         let p = size_at(line, 4);
         return board::format(memory, cache, table, controller, g, fill, p);
     }
-    recover(memory, cache, table, controller, line)
+    if named(line, b"recover") {
+        return recover(memory, cache, table, controller, line);
+    }
+    forms::answer_to(memory, cache, table, controller, line)
 }
 
 // The number, then the destination, which holds the byte dd before.

@@ -8,6 +8,7 @@ use words::least;
 
 mod bench;
 mod calls;
+mod forms;
 mod print;
 mod text;
 mod wiring;
@@ -79,9 +80,9 @@ fn read<'a>(
 
 // After a call the words of the memory that it changed, and those of CACHE.
 fn turn(
-    memory: &mut [u8; 640],
-    cache: &mut [u8; 256],
-    table: &mut [u64; 4],
+    memory: &mut [u8; 680],
+    cache: &mut [u8; 320],
+    table: &mut [u64; 5],
     bench: Bench,
     line: &[u8],
 ) -> Bench {
@@ -120,11 +121,11 @@ fn no_board() -> Bench {
     })
 }
 
-// Every line in turn, on one board of up to 4 blocks and 3 slots.
+// Every line in turn, on one board of up to 85 words, with up to 5 slots.
 fn run(text: &[u8]) {
-    let mut memory = [0u8; 640];
-    let mut cache = [0u8; 256];
-    let mut table = [0u64; 4];
+    let mut memory = [0u8; 680];
+    let mut cache = [0u8; 320];
+    let mut table = [0u64; 5];
     let mut state = no_board();
     let mut start = 0;
     while start < text.len() {

@@ -6,6 +6,7 @@ use rules::Backup;
 use rules::Controller;
 use rules::Geometry;
 use rules::Phase;
+use rules::Registers;
 use words::least;
 use words::number_at;
 
@@ -99,6 +100,14 @@ pub fn record(controller: Controller) {
     backup_name(finished);
     text(b" ");
     hex_byte(registers[0]);
+}
+
+// Whether a recovery has registers.
+pub fn existence(registers: Registers) {
+    match registers {
+        Registers::Saved => text(b" saved,"),
+        Registers::Absent => text(b" absent,"),
+    }
 }
 
 pub fn table_words(table: &[u64]) {

@@ -19,7 +19,7 @@ pub write-one : (p : ℕ) (board : Board) (w : ℕ) (wire : Wire) {answer answer
     → call p board (store w 0 (written wire)) ≡ outcomeOf answer memory cache table
     → call p board (store w 0 (written wire)) ≡ outcomeOf answer′ memory′ cache′ table′
     → SameOutcome answer answer′ memory memory′ cache cache′ table table′
-write-one p board w wire = one-outcome p board (store w 0 (written wire))
+write-one p board w wire = one-outcome
 
 pub gives-one : (block : List ℕ) (r s : Reading) → Gives block r → Gives block s → r ≡ s
 unfolding OneReading

@@ -84,7 +84,7 @@ mul-start : tie.Need-mul-start
 mul-start c =
     let a = c .before .before .before .before .before .before .before .before .before .before .before .before .before .before .args in
     let l = lent (now (a .memory)) (now (a .cache)) (now (a .table)) (a .controller) (a .g) _ (c .before .before .before .before .before .before .before .before .before .sizes-number .ensures (a .controller)) (c .before .before .before .before .before .before .before .before .accepted .ensures) (c .before .before .before .before .before .before .before .if1 .left) in
-    let h = backup-inside (c .before .before .before .backup .given .0 .0) l (c .backup-start .ensures) in
+    let h = backup-inside (a .g) (now (a .memory)) (c .before .before .before .backup .given .0 .0) (l .memory) (c .backup-start .ensures) in
     omega arith
 
 -- src/lib.rt:81:18
@@ -92,7 +92,7 @@ sub-recover-from : tie.Need-sub-recover-from
 sub-recover-from c =
     let a = c .before .before .before .before .before .before .before .before .before .before .before .before .before .before .args in
     let l = lent (now (a .memory)) (now (a .cache)) (now (a .table)) (a .controller) (a .g) _ (c .before .before .before .before .before .before .before .before .before .sizes-number .ensures (a .controller)) (c .before .before .before .before .before .before .before .before .accepted .ensures) (c .before .before .before .before .before .before .before .if1 .left) in
-    let h = backup-inside (c .before .before .before .backup .given .0 .0) l (c .backup-start .ensures) in
+    let h = backup-inside (a .g) (now (a .memory)) (c .before .before .before .backup .given .0 .0) (l .memory) (c .backup-start .ensures) in
     omega arith
 
 -- src/lib.rt:81:18
@@ -100,7 +100,7 @@ part-recover-from-start : tie.Need-part-recover-from-start
 part-recover-from-start c =
     let a = c .before .before .before .before .before .before .before .before .before .before .before .before .before .before .args in
     let l = lent (now (a .memory)) (now (a .cache)) (now (a .table)) (a .controller) (a .g) _ (c .before .before .before .before .before .before .before .before .before .sizes-number .ensures (a .controller)) (c .before .before .before .before .before .before .before .before .accepted .ensures) (c .before .before .before .before .before .before .before .if1 .left) in
-    let h = backup-inside (c .before .before .before .backup .given .0 .0) l (c .backup-start .ensures) in
+    let h = backup-inside (a .g) (now (a .memory)) (c .before .before .before .backup .given .0 .0) (l .memory) (c .backup-start .ensures) in
     omega arith
 
 -- src/lib.rt:81:18
@@ -112,7 +112,7 @@ recover-from-requires : tie.Need-recover-from-requires
 recover-from-requires c κs =
     let a = c .before .before .before .before .before .before .before .before .before .before .before .before .before .before .before .before .args in
     let l = lent (now (a .memory)) (now (a .cache)) (now (a .table)) (a .controller) (a .g) _ (c .before .before .before .before .before .before .before .before .before .before .before .sizes-number .ensures (a .controller)) (c .before .before .before .before .before .before .before .before .before .before .accepted .ensures) (c .before .before .before .before .before .before .before .before .before .if1 .left) in
-    let h = backup-inside (c .before .before .before .before .before .backup .given .0 .0) l (c .before .before .backup-start .ensures) in
+    let h = backup-inside (a .g) (now (a .memory)) (c .before .before .before .before .before .backup .given .0 .0) (l .memory) (c .before .before .backup-start .ensures) in
     (l .blocks, l .table, simp (length-take, length-drop) (omega arith))
 
 -- src/lib.rt:62:1

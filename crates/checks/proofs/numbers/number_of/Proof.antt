@@ -1,5 +1,5 @@
-use borrow.Author.Needs.{needs}
 use Rattle.rules.specs.Numbers.{numberOf}
+use borrow.Author.Needs.{needs}
 use Rattle.checks.proofs.numbers.number_of.Statement.{statement}
 use Rattle.checks.proofs.numbers.number_of.Tie as tie
 
@@ -51,9 +51,17 @@ enum-told-11 c = search needs
 enum-told-12 : tie.Need-enum-told-12
 enum-told-12 c = search needs
 
--- src/numbers.rt:32:24
+-- src/numbers.rt:32:29
 enum-told-13 : tie.Need-enum-told-13
 enum-told-13 c = search needs
+
+-- src/numbers.rt:33:31
+enum-told-14 : tie.Need-enum-told-14
+enum-told-14 c = search needs
+
+-- src/numbers.rt:34:24
+enum-told-15 : tie.Need-enum-told-15
+enum-told-15 c = search needs
 
 -- src/numbers.rt:16:1
 returns : tie.Need-returns
@@ -120,6 +128,16 @@ returns-13 : tie.Need-returns-13
 unfolding numberOf
 returns-13 c = rw (c .enum-told13 .given .1)
 
+-- src/numbers.rt:16:1
+returns-14 : tie.Need-returns-14
+unfolding numberOf
+returns-14 c = rw (c .enum-told14 .given .1)
+
+-- src/numbers.rt:16:1
+returns-15 : tie.Need-returns-15
+unfolding numberOf
+returns-15 c = rw (c .enum-told15 .given .1)
+
 pub number-of-spec : {M : Type 1} → statement M
 number-of-spec =
     tie.close
@@ -137,6 +155,8 @@ number-of-spec =
     enum-told-11
     enum-told-12
     enum-told-13
+    enum-told-14
+    enum-told-15
     returns
     returns-2
     returns-3
@@ -149,4 +169,6 @@ number-of-spec =
     returns-10
     returns-11
     returns-12
-    returns-13)
+    returns-13
+    returns-14
+    returns-15)

@@ -1,0 +1,15 @@
+pub mod Long
+pub mod HeaderBytes
+pub mod Lists
+pub mod Checking
+pub mod Recovering
+pub mod Moving
+pub mod Following
+pub mod Moves
+pub mod Formats
+pub mod Invariant
+pub mod Starting
+pub mod Demand3
+pub mod Fitting
+pub mod CutFormats
+pub mod Demand2

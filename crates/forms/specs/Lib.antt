@@ -1,0 +1,4 @@
+pub mod Stored
+pub mod Calls
+pub mod Runs
+pub mod Promises
