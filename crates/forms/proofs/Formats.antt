@@ -5,7 +5,7 @@ use Prim.Native.Nat.{ℕ, zero, suc, _+_, _*_, _-_, _≤_, _<_}
 use native.Mathlib.Omega.{arith}
 use lib.ListN.{length, take}
 use lib.Seq.{take-all, take-append-add}
-use Rattle.words.specs.Words.{word, Store, lay}
+use Rattle.words.specs.Words.{word, words, Store, lay}
 use Rattle.words.proofs.All.{All, all-take, all-append}
 use Rattle.words.proofs.Lists.{Fit, lay-length, lay-append}
 use Rattle.words.proofs.Makers.{fillTo-laid, numbersTo-laid}
@@ -14,9 +14,9 @@ use Rattle.rules.specs.declared.Geometry.{Geometry}
 use Rattle.rules.specs.declared.Backup.the-variants.{A}
 use Rattle.rules.specs.Geometry.{homeStart, homeWords, backupStart, backupWords, markStart, memoryWords}
 use Rattle.rules.specs.Starts.{formatMark, formatList}
-use Rattle.forms.specs.Stored.{headerStart, longWords, zeroWord, without, firstZeroed, headerTo}
+use Rattle.forms.specs.Stored.{headerBytes, headerStart, longWords, zeroWord, without, firstZeroed, headerTo}
 use Rattle.forms.specs.Calls.{longFormatList}
-use Rattle.forms.proofs.Long.{Parts, joined, with-old, with-first, with-second, parts-of, parts-are, first-is, lay-front}
+use Rattle.forms.proofs.Long.{Parts, joined, with-old, with-first, with-second, parts-of, parts-are, first-is, both-is, lay-front}
 use Rattle.forms.proofs.Lists.{zeroed-length}
 use Rattle.forms.proofs.Moving.{secondWord, second-eight, both-words, with-header, lay-zeroed, up-one, up-two, Left, left-missing, left-header, old-part}
 
@@ -89,6 +89,16 @@ module _ (g : Geometry) (fill : ℕ) (memory : List ℕ) (size : length memory �
       go zero e = first (begun q) (after q 0 e refl) refl
       go (suc zero) e = first (with-second (begun q) (secondWord g) (second-eight g)) (after q 1 e (up-one (begun q))) refl
       go (suc (suc k)) e = absurd (omega (arith, e, h))
+
+  -- with the last word the header is there
+  pub format-headed : (q : ℕ) → length list + 2 ≤ q → words (lay (take (suc q) (longFormatList g fill)) memory) (headerStart g) 2 ≡ headerBytes g
+  format-headed q h = go (q - length list) refl
+    where
+      go : (k : ℕ) → q - length list ≡ k → words (lay (take (suc q) (longFormatList g fill)) memory) (headerStart g) 2 ≡ headerBytes g
+      go zero e = absurd (omega (arith, e, h))
+      go (suc zero) e = absurd (omega (arith, e, h))
+      go (suc (suc k)) e =
+          ap (λ (m : List ℕ). words m (headerStart g) 2) (after q (suc (suc k)) e (up-two (begun q) k)) ∙ both-is (with-header (begun q)) ∙ both-words g
 
   -- the old form's format is whole once its mark is stored
   pub all-laid : (q : ℕ) → length list ≤ q → old-after q ≡ lay list (without memory)

@@ -13,3 +13,4 @@ pub mod Demand3
 pub mod Fitting
 pub mod CutFormats
 pub mod Demand2
+pub mod Ending

@@ -1,5 +1,5 @@
 -- What is promised of the new stored form (document 02, No. 6).
--- Their proofs are in proofs/HeaderBytes.antt, Fitting.antt, Moves.antt, Lists.antt, CutFormats.antt, Demand2.antt and Demand3.antt.
+-- Their proofs are in proofs/HeaderBytes.antt, Fitting.antt, Moves.antt, Ending.antt, Lists.antt, CutFormats.antt, Demand2.antt and Demand3.antt.
 use mathlib.Core.Path.{_≡_}
 use mathlib.Core.Logic.{_≢_, _↔_, _⊎_}
 use mathlib.Core.List.{List, []}
@@ -162,6 +162,18 @@ UpAndBack =
     → 2 ≤ q
     → let there = call p board (up g) .board in
     (numberOf (call q there (back g) .number) ≡ 0) × (call q there (back g) .board ≡ board)
+
+-- ---- what an accepted call leaves of the two words
+
+-- a format and a move up end with the header of the sizes given, so that the new form's recovery is theirs from then on; a move back with zeros
+unfoldable pub HeaderAfter : Type 0
+HeaderAfter =
+    (p : ℕ) (board : Board) (g : Geometry)
+    → ((fill : ℕ)
+    → numberOf (call p board (format g fill) .number) ≡ 0
+    → words (call p board (format g fill) .board .memory) (headerStart g) 2 ≡ headerBytes g)
+    × (numberOf (call p board (up g) .number) ≡ 0 → words (call p board (up g) .board .memory) (headerStart g) 2 ≡ headerBytes g)
+    × (numberOf (call p board (back g) .number) ≡ 0 → words (call p board (back g) .board .memory) (headerStart g) 2 ≡ replicate 16 0)
 
 -- ---- a format
 
