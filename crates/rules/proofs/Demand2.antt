@@ -14,9 +14,9 @@ use Rattle.rules.specs.Board.{Board, Volatile, sizes}
 use Rattle.rules.specs.Numbers.{numberOf, _⇒_}
 use Rattle.rules.specs.Power.{Outcome, stored}
 use Rattle.rules.specs.Starts.{finishedIn, noCheckpoint, unsound, recoverNumber, recoverFrom, recoverPlan}
-use Rattle.rules.specs.Calls.{Call, load, peek, store, begin, step, format, recover, plan, call}
+use Rattle.rules.specs.Calls.{Call, load, peek, store, begin, step, format, recover, sweep, plan, call}
 use Rattle.rules.specs.PlainMachine.{Plain, formatted, opened}
-use Rattle.rules.specs.Runs.{stop, Event, does, Run, afterFormat, fromNone, fromSome, promised, doing, unlessRefused, stopping, advance, runs, NoFormat, a-load, a-peek, a-store, a-begin, a-step, a-recover}
+use Rattle.rules.specs.Runs.{stop, Event, does, Run, afterFormat, fromNone, fromSome, promised, doing, unlessRefused, stopping, advance, runs, NoFormat, a-load, a-peek, a-store, a-begin, a-step, a-recover, a-sweep}
 use Rattle.rules.specs.Promises.{Shows, Demand2}
 use Rattle.rules.proofs.Clashes.{none-some}
 use Rattle.rules.proofs.Changing.{found}
@@ -87,6 +87,7 @@ module _ (p : ℕ) (board : Board) where
   call-stands none unpromised (step n) = unpromised
   call-stands none unpromised (format g fill) = format-stands p board none unpromised g fill
   call-stands none unpromised (recover g) = recover-stands g
+  call-stands none unpromised (sweep limit) = unpromised
   call-stands (some plain) (standing-by v) (load block offset len) = noted-stands plain v (load block offset len) a-load
   call-stands (some plain) (standing-by v) (peek block) = noted-stands plain v (peek block) a-peek
   call-stands (some plain) (standing-by v) (store block offset bytes) = noted-stands plain v (store block offset bytes) a-store
@@ -94,6 +95,7 @@ module _ (p : ℕ) (board : Board) where
   call-stands (some plain) (standing-by v) (step n) = noted-stands plain v (step n) a-step
   call-stands (some plain) (standing-by v) (format g fill) = format-stands p board (some plain) (standing-by v) g fill
   call-stands (some plain) (standing-by v) (recover g) = noted-stands plain v (recover g) a-recover
+  call-stands (some plain) (standing-by v) (sweep limit) = noted-stands plain v (sweep limit) a-sweep
 
 -- ---- a loss of supply: after an accepted recovery the board looks like what was kept, after a refused one nothing stands
 

@@ -14,7 +14,7 @@ use Rattle.rules.specs.Loads.{shows}
 use Rattle.rules.specs.Starts.{handedOut, recorded}
 use Rattle.rules.specs.Calls.{Call, format, recover, plan, call}
 use Rattle.rules.specs.PlainMachine.{Plain, formatted, did, note}
-use Rattle.rules.specs.Runs.{stop, Event, does, Run, fromSome, promised, doing, unlessRefused, stopping, advance, runs, Lengths, NoFormat, a-load, a-peek, a-store, a-begin, a-step, a-recover, Allowed, a-call, a-stop, AllAllowed, and-then, FromFormat, formattedRun, runFrom}
+use Rattle.rules.specs.Runs.{stop, Event, does, Run, fromSome, promised, doing, unlessRefused, stopping, advance, runs, Lengths, NoFormat, a-load, a-peek, a-store, a-begin, a-step, a-recover, a-sweep, Allowed, a-call, a-stop, AllAllowed, and-then, FromFormat, formattedRun, runFrom}
 use Rattle.rules.specs.Promises.{Recovers, RecoversTo, Safe, Demand3}
 use Rattle.rules.proofs.Saving.{given-back}
 use Rattle.rules.proofs.Checked.{Lent}
@@ -22,6 +22,7 @@ use Rattle.rules.proofs.Invariant.{Inv, Keeps, no-mark, note-unmarked, 
 use Rattle.rules.proofs.KeepsStore.{store-keeps}
 use Rattle.rules.proofs.KeepsStep.{step-keeps}
 use Rattle.rules.proofs.KeepsBegin.{begin-keeps}
+use Rattle.rules.proofs.KeepsSweep.{sweep-keeps}
 use Rattle.rules.proofs.KeepsRest.{load-keeps, peek-keeps, recovered, recovered-inv, recover-keeps}
 use Rattle.rules.proofs.Answers.{counted}
 use Rattle.rules.proofs.Started.{recover-is, format-inv}
@@ -43,6 +44,7 @@ call-keeps board plain v c (a-store {block = block} {offset = offset} {bytes = b
 call-keeps board plain v c (a-begin {registers = registers}) = begin-keeps board plain v registers
 call-keeps board plain v c (a-step {n = n}) = step-keeps board plain v n
 call-keeps board plain v c (a-recover {h = h}) = recover-keeps board plain v h
+call-keeps board plain v c (a-sweep {limit = limit}) = sweep-keeps board plain v limit
 
 pub noted : (g : Geometry) (plain : Plain) (c : Call) (n : ℕ) (ws : List Store) → NoFormat c → fromSome g plain c n ws ≡ some (note g plain c n ws)
 unfolding fromSome
@@ -52,6 +54,7 @@ noted g plain c n ws a-store = refl
 noted g plain c n ws a-begin = refl
 noted g plain c n ws a-step = refl
 noted g plain c n ws a-recover = refl
+noted g plain c n ws a-sweep = refl
 
 -- the plain machine after a call
 abbrev pub next : Run → Plain → ℕ → Call → Plain

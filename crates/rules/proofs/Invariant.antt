@@ -30,7 +30,7 @@ use Rattle.rules.specs.Loads.{shows, visible}
 use Rattle.rules.specs.Stores.{stores}
 use Rattle.rules.specs.Checkpoints.{begun, saved, other, checkpointList}
 use Rattle.rules.specs.Starts.{savedBlock}
-use Rattle.rules.specs.Calls.{Call, load, peek, store, begin, step, format, recover}
+use Rattle.rules.specs.Calls.{Call, load, peek, store, begin, step, format, recover, sweep}
 use Rattle.rules.specs.PlainMachine.{Picture, Plain, did, hasMark, note}
 use Rattle.rules.proofs.Clashes.{and-left}
 use Rattle.rules.proofs.Apart.{Apart}
@@ -125,6 +125,7 @@ did-not plain (begin registers) (suc n) ne = refl
 did-not plain (step count) (suc n) ne = refl
 did-not plain (format g fill) (suc n) ne = refl
 did-not plain (recover g) (suc n) ne = refl
+did-not plain (sweep limit) (suc n) ne = refl
 
 -- words without the mark finish nothing
 pub no-mark : (g : Geometry) {stores : List Store} → All (Below (markStart g)) stores → hasMark g stores ≡ false

@@ -18,6 +18,8 @@ pub mod KeepsRest
 pub mod Answers
 pub mod Started
 pub mod LiveShown
+pub mod Sweeping
+pub mod KeepsSweep
 pub mod Demand3
 pub mod NoneFinished
 pub mod Demand2

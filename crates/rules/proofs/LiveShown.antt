@@ -34,7 +34,7 @@ use Rattle.rules.proofs.Invariant.{Mode, is-running, is-writing, Inv}
 use Rattle.rules.proofs.Answers.{guard-accepted, carry-nothing}
 
 -- while the phase isn't Off, what shows is live
-live-shown : (board : Board) (plain : Plain) (v : Inv board plain) (block : ℕ) → block < sizes board .blocks → isOff (phaseOf board) ≡ false → seen board block ≡ plain .live block
+pub live-shown : (board : Board) (plain : Plain) (v : Inv board plain) (block : ℕ) → block < sizes board .blocks → isOff (phaseOf board) ≡ false → seen board block ≡ plain .live block
 unfolding seen
 live-shown board plain v block h awake = go (phaseOf board) awake (v .mode)
   where
@@ -66,7 +66,7 @@ inv-shows board plain v = record { loads = loads; peeks = peeks }
 
 -- ---- a board that isn't Off accepts every load in range
 
-awake-passed : (board : Board) (plain : Plain) (v : Inv board plain) → isOff (phaseOf board) ≡ false
+pub awake-passed : (board : Board) (plain : Plain) (v : Inv board plain) → isOff (phaseOf board) ≡ false
     → (overCount (sizes board) (phaseOf board) ≡ false) × (malformed board ≡ false)
 unfolding overCount malformed allows
 awake-passed board plain v awake = go (phaseOf board) awake (v .mode)
@@ -81,7 +81,7 @@ awake-passed board plain v awake = go (phaseOf board) awake (v .mode)
     go (Writing count) e (is-writing sh dr) = (le-ltb (sizes board .slots + 8) count (dr .few), formed whileWriting (sh .formed))
     go Off e m = absurd (false-true (sym e))
 
-in-range-false : (board : Board) (block offset len : ℕ) → block < sizes board .blocks → offset ≤ 63 → len ≢ 0 → offset + len ≤ 64
+pub in-range-false : (board : Board) (block offset len : ℕ) → block < sizes board .blocks → offset ≤ 63 → len ≢ 0 → offset + len ≤ 64
     → outOfRange board block offset len ≡ false
 unfolding outOfRange noBlock
 in-range-false board block offset len lt early some-len fits =

@@ -31,8 +31,9 @@ use Rattle.rules.specs.Power.{Plan, refuse, carry, guard, Outcome, whole
 use Rattle.rules.specs.Loads.{Spot, spotIn, blockIn, visible, seen, loadNumber, loadPlan, peekNumber, peekPlan}
 use Rattle.rules.specs.Stores.{replaced, Move, to, notWellFormed, stores, moveIn, slotFor, full, storeNumber, isShort, windowFor, layAt, moved, movedTo, storeBy, storePlan}
 use Rattle.rules.specs.Checkpoints.{beginNumber, beginPlan, stepNumber, stepPlan}
+use Rattle.rules.specs.Sweeps.{sweepNumber, sweepPlan}
 use Rattle.rules.specs.Starts.{formatList, formatNumber, formatPlan, finishedIn, recoverNumber, recoverFrom, recoverPlan}
-use Rattle.rules.specs.Calls.{Call, load, peek, store, begin, step, format, recover, plan, call}
+use Rattle.rules.specs.Calls.{Call, load, peek, store, begin, step, format, recover, sweep, plan, call}
 use Rattle.rules.specs.Promises.{NoEntry, NoneFree, FullExactly, StoreLeaves, RecoveryLeaves, Leaves, StatesMove, CutFormat}
 use Rattle.rules.proofs.Clashes.{none-some, or-false}
 use Rattle.rules.proofs.TableWordLaws.{says-word, says-zero, names-word, free-word}
@@ -279,7 +280,7 @@ recovery-leaves p board g e =
         (record { backup = backup; named = q; table = refl; registers = refl; memory = refl })
 
 pub states-move : StatesMove
-unfolding StatesMove Leaves call plan loadPlan peekPlan beginPlan stepPlan formatPlan
+unfolding StatesMove Leaves call plan loadPlan peekPlan beginPlan stepPlan formatPlan sweepPlan
 states-move p board c = (accepted c, λ ne. refused-table c ne)
   where
     refused-table : (c : Call) → numberOf (call p board c .number) ≢ 0 → tableOf (call p board c .board) ≡ tableOf board
@@ -297,6 +298,7 @@ states-move p board c = (accepted c, λ ne. refused-table c ne)
     accepted (step n) e = whole-table (stepNumber board) _ _ _ e
     accepted (format g fill) e = whole-table (formatNumber board g) _ _ _ e
     accepted (recover g) e = recovery-leaves p board g e
+    accepted (sweep limit) e = whole-table (sweepNumber board) _ _ _ e
 
 -- ---- a format that is cut
 

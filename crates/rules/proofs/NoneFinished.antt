@@ -13,7 +13,7 @@ use Rattle.rules.specs.Numbers.{numberOf}
 use Rattle.rules.specs.Power.{stored}
 use Rattle.rules.specs.Checkpoints.{saved, other, checkpointList, countOf, nextWords}
 use Rattle.rules.specs.Starts.{recorded}
-use Rattle.rules.specs.Calls.{Call, load, peek, store, begin, step, format, recover, plan, call}
+use Rattle.rules.specs.Calls.{Call, load, peek, store, begin, step, format, recover, sweep, plan, call}
 use Rattle.rules.specs.PlainMachine.{Picture, Plain, formatted, did, hasMark, note}
 use Rattle.rules.specs.Runs.{Event, does, stop, Run, doing, stopping, advance, runs, FromFormat, formattedRun, runFrom, NoneFinished, no-more, and-call, and-stop}
 use Rattle.rules.specs.Promises.{NoRegistersYet, NextToB}
@@ -34,6 +34,7 @@ did-kept plain (step most) n = refl
 did-kept plain (format h fill) n = refl
 did-kept plain (recover h) zero = refl
 did-kept plain (recover h) (suc n) = refl
+did-kept plain (sweep limit) n = refl
 
 noted-kept : (g : Geometry) (plain : Plain) (c : Call) (n : ℕ) (words : List Store) → hasMark g words ≡ false → note g plain c n words .kept ≡ plain .kept
 noted-kept g plain c n words unmarked = ap (λ (z : Plain). z .kept) (note-unmarked g plain c n words unmarked) ∙ did-kept plain c n

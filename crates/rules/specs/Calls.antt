@@ -1,4 +1,4 @@
--- The seven calls, and the one outcome of each (document 01, all of it).
+-- The calls, and the one outcome of each (document 01, all of it; document 02, No. 7).
 use mathlib.Core.List.{List}
 use Prim.Native.Nat.{ℕ}
 use Rattle.rules.specs.declared.Geometry.{Geometry}
@@ -7,6 +7,7 @@ use Rattle.rules.specs.Power.{Plan, Outcome, settle}
 use Rattle.rules.specs.Loads.{loadPlan, peekPlan}
 use Rattle.rules.specs.Stores.{storePlan}
 use Rattle.rules.specs.Checkpoints.{beginPlan, stepPlan}
+use Rattle.rules.specs.Sweeps.{sweepPlan}
 use Rattle.rules.specs.Starts.{formatPlan, recoverPlan}
 
 pub data Call : Type 0 where
@@ -24,9 +25,11 @@ pub data Call : Type 0 where
   format : Geometry → ℕ → Call
   -- sizes
   recover : Geometry → Call
+  -- limit
+  sweep : ℕ → Call
 
 unfoldable pub plan : Board → Call → Plan
-unfolding loadPlan peekPlan storePlan beginPlan stepPlan formatPlan recoverPlan
+unfolding loadPlan peekPlan storePlan beginPlan stepPlan formatPlan recoverPlan sweepPlan
 plan board (load block offset len) = loadPlan board block offset len
 plan board (peek block) = peekPlan board block
 plan board (store block offset bytes) = storePlan board block offset bytes
@@ -34,6 +37,7 @@ plan board (begin registers) = beginPlan board registers
 plan board (step n) = stepPlan board n
 plan board (format g fill) = formatPlan board g fill
 plan board (recover g) = recoverPlan board g
+plan board (sweep limit) = sweepPlan board limit
 
 -- a call on a board, with an allowance of p words
 unfoldable pub call : ℕ → Board → Call → Outcome

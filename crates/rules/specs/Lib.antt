@@ -6,6 +6,7 @@ pub mod Power
 pub mod Loads
 pub mod Stores
 pub mod Checkpoints
+pub mod Sweeps
 pub mod Starts
 pub mod Calls
 pub mod PlainMachine

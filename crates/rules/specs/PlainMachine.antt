@@ -10,7 +10,7 @@ use Rattle.rules.specs.declared.Geometry.{Geometry}
 use Rattle.rules.specs.declared.Backup.{Backup}
 use Rattle.rules.specs.Geometry.{markStart}
 use Rattle.rules.specs.Starts.{finishedIn, savedRegisters, tableIn, savedBlock}
-use Rattle.rules.specs.Calls.{Call, load, peek, store, begin, step, format, recover}
+use Rattle.rules.specs.Calls.{Call, load, peek, store, begin, step, format, recover, sweep}
 
 -- every block, and the registers or their absence
 pub record Picture : Type 0 where
@@ -82,6 +82,8 @@ did plain (step count) n = plain
 did plain (format g fill) n = plain
 did plain (recover g) zero = record { live = plain .kept .blocks; kept = plain .kept; onItsWay = none }
 did plain (recover g) (suc n) = plain
+-- no load changes
+did plain (sweep limit) n = plain
 
 -- ---- a checkpoint is finished when its mark word is stored
 

@@ -24,8 +24,9 @@ use Rattle.rules.specs.Power.{Outcome, settle, stored}
 use Rattle.rules.specs.Loads.{inMemory, spotIn, spotOf, shows, blockIn, seen, loadNumber}
 use Rattle.rules.specs.Stores.{replaced, to, stores, moveIn, slotFor, storeNumber, all, windowTo, storeBy}
 use Rattle.rules.specs.Checkpoints.{begun, saved, checkpointList, countOf, nextWords}
+use Rattle.rules.specs.Sweeps.{lowestClean, hidden}
 use Rattle.rules.specs.Starts.{finishedIn, savedRegisters, tableIn, recorded, registersGiven}
-use Rattle.rules.specs.Calls.{Call, load, peek, store, begin, step, format, recover, plan, call}
+use Rattle.rules.specs.Calls.{Call, load, peek, store, begin, step, format, recover, sweep, plan, call}
 use Rattle.rules.specs.PlainMachine.{Picture, Plain, note}
 use Rattle.rules.specs.Runs.{Event, Run, runs, Lengths, NoFormat, FromFormat, formattedRun, runFrom, NoneFinished}
 
@@ -159,6 +160,7 @@ Leaves board (begin registers) after = tableOf after ≡ map (changed begun) (ta
 Leaves board (step n) after = tableOf after ≡ tableOf board
 Leaves board (format g fill) after = tableOf after ≡ replicate (g .slots) 0
 Leaves board (recover g) after = RecoveryLeaves board g after
+Leaves board (sweep limit) after = tableOf after ≡ hidden (lowestClean limit (tableOf board)) (tableOf board)
 
 -- any call on any board: accepted it leaves the above, otherwise the table as at entry
 unfoldable pub StatesMove : Type 0

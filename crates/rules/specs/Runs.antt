@@ -11,7 +11,7 @@ use Rattle.rules.specs.declared.Geometry.{Geometry}
 use Rattle.rules.specs.Board.{Board, Volatile, sizes}
 use Rattle.rules.specs.Numbers.{numberOf}
 use Rattle.rules.specs.Power.{Outcome, stored}
-use Rattle.rules.specs.Calls.{Call, load, peek, store, begin, step, format, recover, plan, call}
+use Rattle.rules.specs.Calls.{Call, load, peek, store, begin, step, format, recover, sweep, plan, call}
 use Rattle.rules.specs.PlainMachine.{Plain, formatted, opened, hasMark, note}
 
 pub data Event : Type 0 where
@@ -40,6 +40,7 @@ fromNone (begin registers) n board = none
 fromNone (step count) n board = none
 fromNone (format g fill) n board = afterFormat none fill n
 fromNone (recover g) n board = cond (eqb n 0) (opened g (board .memory)) none
+fromNone (sweep limit) n board = none
 
 unfoldable pub fromSome : Geometry → Plain → Call → ℕ → List Store → Option Plain
 unfolding note afterFormat
@@ -50,6 +51,7 @@ fromSome g plain (begin registers) n stores = some (note g plain (begin register
 fromSome g plain (step count) n stores = some (note g plain (step count) n stores)
 fromSome g plain (format h fill) n stores = afterFormat (some plain) fill n
 fromSome g plain (recover h) n stores = some (note g plain (recover h) n stores)
+fromSome g plain (sweep limit) n stores = some (note g plain (sweep limit) n stores)
 
 unfoldable pub promised : Geometry → Option Plain → Call → Outcome → List Store → Option Plain
 unfolding fromNone fromSome numberOf
@@ -103,6 +105,7 @@ pub data NoFormat : Call → Type 0 where
   a-begin : {registers : List ℕ} → NoFormat (begin registers)
   a-step : {n : ℕ} → NoFormat (step n)
   a-recover : {h : Geometry} → NoFormat (recover h)
+  a-sweep : {limit : ℕ} → NoFormat (sweep limit)
 
 pub data Allowed (g : Geometry) : Event → Type 0 where
   a-call : {p : ℕ} {c : Call} → NoFormat c → Allowed g (does p c)

@@ -1,0 +1,196 @@
+-- The entries of a sweep, each as a store of its block's unchanged bytes.
+use mathlib.Core.Path.{_≡_, refl, sym, ap, _∙_, subst}
+use mathlib.Core.Logic.{_≢_}
+use mathlib.Core.Bool.{Bool, true, false, _||_, not}
+use mathlib.Core.List.{List, [], _∷_, _++_, append-nil}
+use mathlib.Core.Option.{some}
+use Prim.Native.Nat.{ℕ, zero, suc, _+_, _*_, _-_, _≤_, _<_}
+use native.Mathlib.Omega.{arith}
+use native.Mathlib.Nat.{suc-ne-zero, zero-add}
+use lib.Dec.{ltb}
+use lib.ListN.{length, take, drop, getD, set, length-set, drop-of-length-le}
+use lib.Seq.{getD-set-other, drop-nil}
+use borrow.Author.Tests.{ltb-true, ne-eqb, lt-leb, le-ltb, not-false}
+use Rattle.words.specs.Words.{blockAt, Store, lay, bytesTo}
+use Rattle.words.proofs.All.{All}
+use Rattle.words.proofs.Blocks.{block-laid-other, length-block}
+use Rattle.rules.specs.declared.Geometry.{Geometry}
+use Rattle.rules.specs.declared.Phase.{Phase}
+use Rattle.rules.specs.declared.Phase.the-variants.{Running, Writing, Off}
+use Rattle.rules.specs.declared.State.{State}
+use Rattle.rules.specs.declared.State.the-variants.{Clean, Dirty, Hidden, PreHidden, PreDirty}
+use Rattle.rules.specs.declared.Lookup.{Lookup}
+use Rattle.rules.specs.declared.Lookup.the-variants.{Entry}
+use Rattle.rules.specs.declared.Number.{Number}
+use Rattle.rules.specs.declared.Number.the-variants as No
+use Rattle.rules.specs.Geometry.{homeBlock, checkpointBlock}
+use Rattle.rules.specs.TableWords.{wordOf, Says, free, names, neither, says, lookup, lowestFree, every}
+use Rattle.rules.specs.Board.{Board, sizes, phaseOf, cacheOf, tableOf}
+use Rattle.rules.specs.Numbers.{numberOf, _⇒_, firstOf, allows, wellSaid, wellFormed, malformed, commonChecks, outOfRange, inexact, isOff}
+use Rattle.rules.specs.Power.{Plan, carry, guard}
+use Rattle.rules.specs.Loads.{spotOf, spotIn, shows, blockIn, visible, seen}
+use Rattle.rules.specs.Stores.{replaced, to, stores, moveIn, slotFor, full, storeNumber, all, isShort, windowFor, windowTo, layAt, moved, movedTo, storeBy, storePlan}
+use Rattle.rules.specs.Sweeps.{CleanEntry, cleanBy, cleanFrom, lowestClean, homeCopies, hidden}
+use Rattle.rules.proofs.Clashes.{and-left, or-false}
+use Rattle.rules.proofs.TableWordLaws.{says-word}
+use Rattle.rules.proofs.Finding.{Finds, finds-lookup}
+use Rattle.rules.proofs.Apart.{Apart, apart-finds, apart-same}
+use Rattle.rules.proofs.Changing.{every-all, all-every, all-get, all-set}
+use Rattle.rules.proofs.Checked.{Common, Lent, exact-lent, lent-exact}
+use Rattle.rules.proofs.KeepsStore.{seen-length, word-formed}
+use Rattle.rules.proofs.LiveShown.{in-range-false}
+use Rattle.rules.proofs.Windows.{window-all}
+
+-- ---- clean entries that stand in a table, each above the one before
+
+pub data Waiting (table : List ℕ) : ℕ → List CleanEntry → Type 0 where
+  no-more : {low : ℕ} → Waiting table low []
+  and-above : {low : ℕ} {entry : CleanEntry} {entries : List CleanEntry}
+      → low ≤ entry .slot
+      → entry .slot < length table
+      → says (getD table (entry .slot) 0) ≡ names (entry .block) Clean
+      → Waiting table (suc (entry .slot)) entries
+      → Waiting table low (entry ∷ entries)
+
+-- what is left of a table from a slot on begins with the slot's word
+pub rest-word : (table : List ℕ) (slot : ℕ) (word : ℕ) (rest : List ℕ) → drop slot table ≡ word ∷ rest
+    → (slot < length table) × (getD table slot 0 ≡ word) × (drop (suc slot) table ≡ rest)
+rest-word [] zero word rest e = absurd (nil-cons e)
+  where
+    nil-cons : _≡_ {A = List ℕ} [] (word ∷ rest) → ⊥
+    nil-cons q = suc-ne-zero (length rest) (sym (ap length q))
+rest-word [] (suc slot) word rest e = absurd (nil-cons e)
+  where
+    nil-cons : _≡_ {A = List ℕ} [] (word ∷ rest) → ⊥
+    nil-cons q = suc-ne-zero (length rest) (sym (ap length q))
+rest-word (first ∷ table) zero word rest e = (omega arith, ap (λ (z : List ℕ). getD z 0 0) e, ap (drop 1) e)
+rest-word (first ∷ table) (suc slot) word rest e = let r = rest-word table slot word rest e in (omega (arith, r .0), r .1, r .2)
+
+pub clean-waiting : (table : List ℕ) → Waiting table 0 (cleanFrom 0 table)
+unfolding cleanFrom cleanBy
+clean-waiting table = go table 0 refl
+  where
+    lower : {low : ℕ} {entries : List CleanEntry} → Waiting table (suc low) entries → Waiting table low entries
+    lower no-more = no-more
+    lower {low} (and-above {entry = entry} a b c d) = and-above {low = low} {entry = entry} (omega arith) b c d
+
+    go : (rest : List ℕ) (slot : ℕ) → drop slot table ≡ rest → Waiting table slot (cleanFrom slot rest)
+    go [] slot e = no-more
+    go (word ∷ rest) slot e =
+        let r = rest-word table slot word rest e in
+        let above = go rest (suc slot) (r .2) in
+        by (says word) (ap says (r .1)) (r .0) above
+      where
+        by : (x : Says) → says (getD table slot 0) ≡ x → slot < length table → Waiting table (suc slot) (cleanFrom (suc slot) rest)
+            → Waiting table slot (cleanBy slot x (cleanFrom (suc slot) rest))
+        by free q h above = lower above
+        by neither q h above = lower above
+        by (names block Clean) q h above = and-above {low = slot} {entry = record { slot = slot; block = block }} (omega arith) h q above
+        by (names block Dirty) q h above = lower above
+        by (names block Hidden) q h above = lower above
+        by (names block PreHidden) q h above = lower above
+        by (names block PreDirty) q h above = lower above
+
+pub waiting-take : {table : List ℕ} {low : ℕ} {entries : List CleanEntry} (limit : ℕ) → Waiting table low entries → Waiting table low (take limit entries)
+waiting-take zero s = no-more
+waiting-take (suc limit) no-more = no-more
+waiting-take (suc limit) (and-above a b c d) = and-above a b c (waiting-take limit d)
+
+-- a word changed below them
+pub waiting-set : {table : List ℕ} {low : ℕ} {entries : List CleanEntry} (slot word : ℕ) → slot < low → Waiting table low entries
+    → Waiting (set table slot word) low entries
+waiting-set slot word h no-more = no-more
+waiting-set {table} {low} slot word h (and-above {entry = entry} a b c d) =
+    and-above a (omega (arith, length-set table slot word))
+    (ap says (getD-set-other table slot (entry .slot) word 0 (λ e. omega arith)) ∙ c)
+    (waiting-set slot word (omega arith) d)
+
+pub lowest-waiting : (limit : ℕ) (table : List ℕ) → Waiting table 0 (lowestClean limit table)
+unfolding lowestClean
+lowest-waiting limit table = waiting-take limit (clean-waiting table)
+
+-- ---- a board on which a sweep may be carried out: it passes the checks, and its phase is Running
+
+pub record Open (board : Board) : Type 0 where
+  pub common : Common board false
+  pub running : phaseOf board ≡ Running
+
+pub open-lent : {board : Board} → Open board → Lent (sizes board) board
+open-lent {board} o = exact-lent (sizes board) board (or-false (inexact (sizes board) board) false (o .common .exact) .0)
+
+pub open-formed : {board : Board} → Open board → All (λ w. wellFormed (allows Running) (sizes board) w ≡ true) (tableOf board)
+unfolding malformed
+open-formed {board} o =
+    every-all (wellFormed (allows Running) (sizes board)) (tableOf board)
+    (subst (λ (phase : Phase). every (wellFormed (allows phase) (sizes board)) (tableOf board) ≡ true) (o .running) (not-false _ (o .common .formed)))
+
+formed-block : (g : Geometry) (word block : ℕ) (state : State) → wellFormed (allows Running) g word ≡ true → says word ≡ names block state → block < g .blocks
+unfolding wellFormed wellSaid
+formed-block g word block state f e =
+    ltb-true block (g .blocks) (and-left (ltb block (g .blocks)) (allows Running state) (sym (ap (wellSaid (allows Running) g) e) ∙ f))
+
+-- the block that a clean entry names is one of the board's
+pub swept-block : {board : Board} → Open board → (slot block : ℕ) → slot < length (tableOf board) → says (getD (tableOf board) slot 0) ≡ names block Clean
+    → block < sizes board .blocks
+swept-block {board} o slot block h e = formed-block (sizes board) (getD (tableOf board) slot 0) block Clean (all-get slot (open-formed o) h) e
+
+-- ---- one entry
+
+-- the board after one entry is swept
+abbrev pub sweptOnce : Board → ℕ → ℕ → Board
+sweptOnce board slot block = record {
+  memory = lay (bytesTo (8 * homeBlock (sizes board) block) 8 (blockAt (board .memory) (checkpointBlock (sizes board) slot))) (board .memory);
+  volatile = record { cache = cacheOf board; table = set (tableOf board) slot (wordOf block Hidden); controller = board .volatile .controller };
+}
+
+itself : (block : List ℕ) → replaced block 0 block ≡ block
+unfolding replaced
+itself block = let h : length block ≤ 0 + length block = omega arith in ap (λ (z : List ℕ). block ++ z) (drop-of-length-le block h) ∙ append-nil block
+
+module _ (board : Board) (o : Open board) (slot block : ℕ) (found : Finds block (tableOf board) (Entry slot Clean)) (below : block < sizes board .blocks) where
+  pub shown : seen board block ≡ blockAt (board .memory) (checkpointBlock (sizes board) slot)
+  unfolding seen visible spotOf spotIn blockIn
+  shown = ap (λ (z : Lookup). blockIn (board .memory) (cacheOf board) (spotOf (sizes board) block z)) (finds-lookup found)
+
+  pub whole-block : length (seen board block) ≡ 64
+  whole-block = seen-length board (open-lent o) block below
+
+  checks-passed : storeNumber board block 0 (seen board block) ≡ No.Done
+  unfolding storeNumber commonChecks firstOf slotFor full
+  checks-passed =
+      rw (
+        o .common .fine,
+        o .common .exact,
+        o .common .count,
+        o .common .awake,
+        o .common .formed,
+        in-range-false board block 0 (length (seen board block)) below (omega arith) (λ e. omega (arith, whole-block)) (omega (arith, whole-block)),
+        finds-lookup found,
+      )
+
+  abbrev planned : Lookup → Phase → List ℕ → Plan
+  planned r phase fresh =
+      movedTo board block (slotFor r (lowestFree (tableOf board))) fresh (windowFor (isShort phase r) 0 (length (seen board block))) (moveIn phase (stores r))
+
+  -- the sweep of an entry is the store of its block's own bytes
+  pub as-store : storePlan board block 0 (seen board block)
+      ≡ carry (bytesTo (8 * homeBlock (sizes board) block) 8 (blockAt (board .memory) (checkpointBlock (sizes board) slot))) (sweptOnce board slot block .volatile) []
+  unfolding storePlan storeBy guard numberOf slotFor moveIn stores isShort windowFor movedTo moved layAt spotIn
+  as-store =
+      let fresh = replaced (seen board block) 0 (seen board block) in
+      ap (λ (n : Number). guard n (planned (lookup block (tableOf board)) (phaseOf board) fresh)) checks-passed
+      ∙ ap (λ (r : Lookup). planned r (phaseOf board) fresh) (finds-lookup found)
+      ∙ ap (λ (phase : Phase). planned (Entry slot Clean) phase fresh) (o .running)
+      ∙ ap (planned (Entry slot Clean) Running) (itself (seen board block) ∙ shown)
+      ∙ ap (λ (ws : List Store). carry ws (sweptOnce board slot block .volatile) []) (window-all block (blockAt (board .memory) (checkpointBlock (sizes board) slot)))
+
+  -- a copy to HOME touches no CHECKPOINT block
+  pub reads-on : (entries : List CleanEntry) → homeCopies (sizes board) (sweptOnce board slot block .memory) entries ≡ homeCopies (sizes board) (board .memory) entries
+  unfolding homeCopies
+  reads-on [] = refl
+  reads-on (entry ∷ entries) =
+      let same : blockAt (sweptOnce board slot block .memory) (checkpointBlock (sizes board) (entry .slot)) ≡ blockAt (board .memory) (checkpointBlock (sizes board) (entry .slot)) =
+      block-laid-other (board .memory) (checkpointBlock (sizes board) (entry .slot)) (homeBlock (sizes board) block) (blockAt (board .memory) (checkpointBlock (sizes board) slot))
+      (sym (ap length shown) ∙ whole-block) (omega (arith, below, open-lent o .memory)) (λ e. omega (arith, below))
+      in
+      rw (same, reads-on entries)
