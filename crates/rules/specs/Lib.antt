@@ -12,4 +12,5 @@ pub mod Calls
 pub mod PlainMachine
 pub mod Runs
 pub mod Promises
+pub mod SweepPromises
 pub mod Lettered
