@@ -16,3 +16,4 @@ pub use starts::format;
 pub use starts::recover;
 pub use stores::store;
 pub use stores::store_number;
+pub use sweeps::sweep;

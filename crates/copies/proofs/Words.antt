@@ -19,16 +19,9 @@ use Rattle.rules.specs.TableWords.{codeOf, wordOf, Says, free, names, neither, 
 use Rattle.rules.specs.Numbers.{wellSaid, wellFormed}
 use Rattle.rules.specs.Checkpoints.{copiedTo, copyOf, begun, saved}
 use Rattle.rules.proofs.Clashes.{none-some, and-left}
-use Rattle.rules.proofs.TableWordLaws.{word-code, says-word, names-word}
+use Rattle.rules.proofs.TableWordLaws.{coded, code-named}
 use Rattle.rules.proofs.Changing.{changed-entry}
 use Rattle.checks.specs.Tables.{FormedWord}
-
-pub coded : (word : ℕ) (state : State) → word % 256 ≡ codeOf state → says word ≡ names (word / 256) state
-unfolding wordOf
-coded word state e = let q : word ≡ wordOf (word / 256) state = omega arith in ap says q ∙ says-word (word / 256) state
-
-code-named : (word block : ℕ) (state : State) → says word ≡ names block state → word % 256 ≡ codeOf state
-code-named word block state e = ap (λ (x : ℕ). x % 256) (names-word word block state e) ∙ word-code block state
 
 -- ---- the word changed
 

@@ -32,6 +32,23 @@ store-at (suc n) (suc k) place bytes h =
     ∙ ap (λ (z : ℕ). record { place = z; bytes = take 8 (drop (8 * k) (drop 8 bytes)) } ∷ []) e
     ∙ ap (λ (z : List ℕ). record { place = place + suc k; bytes = take 8 z } ∷ []) (drop-drop (8 * k) 8 bytes ∙ ap (λ (z : ℕ). drop z bytes) f)
 
+-- ---- the visible word
+
+-- eight bytes of a part, as the word of a block there
+pub visible-word : (part : List ℕ) (q k : ℕ) → 64 * q + 64 ≤ length part → k < 8 → take 8 (drop (64 * q + 8 * k) part) ≡ word (blockAt part q) k
+unfolding word
+visible-word part q k r h =
+    let e : 64 * q + 8 * k ≡ 8 * (8 * q + k) = omega arith in
+    ap (λ (z : ℕ). take 8 (drop z part)) e
+    ∙ same-word (word part (8 * q + k)) (blockAt part q) k (length-word part (8 * q + k) (omega arith)) (omega (arith, length-block part q r))
+    (λ i l.
+    let f : 8 * (8 * q + k) + i ≡ 64 * q + (8 * k + i) = omega arith in
+    byte-of-word part (8 * q + k) i l
+    ∙ ap (λ (z : ℕ). getD part z 0) f
+    ∙ sym (ap (λ (z : List ℕ). getD z (8 * k + i) 0) (block-part part q) ∙ getD-take 64 (drop (64 * q) part) (8 * k + i) 0 (omega arith) ∙ getD-drop (64 * q) part (8 * k + i) 0))
+
+-- ---- words stored one after the other
+
 module _ (memory fresh : List ℕ) (place n : ℕ) (sized : 8 * n ≤ length fresh) (room : 8 * (place + n) ≤ length memory) where
   -- the memory when k words are stored
   abbrev pub built : ℕ → List ℕ
@@ -63,7 +80,7 @@ module _ (memory fresh : List ℕ) (place n : ℕ) (sized : 8 * n ≤ length fre
       }
 
   -- the words from the next one on are as they were
-  pub built-unread : (k i : ℕ) → k ≤ n → (i < place + k → i < place) → word (built k) i ≡ word memory i
+  built-unread : (k i : ℕ) → k ≤ n → (i < place + k → i < place) → word (built k) i ≡ word memory i
   unfolding Misses
   built-unread k i h out =
       let laid = bytesTo-laid k place fresh (length memory) (omega arith) (omega arith) in
@@ -71,20 +88,17 @@ module _ (memory fresh : List ℕ) (place n : ℕ) (sized : 8 * n ≤ length fre
       ∙ untouched (bytesTo place k fresh) memory i (laid .fits)
       (all-map (λ s t q. let b = out (omega (arith, t .high)) in omega (arith, b, t .low)) (laid .inside))
 
--- ---- the visible word
-
--- eight bytes of a part, as the word of a block there
-pub visible-word : (part : List ℕ) (q k : ℕ) → 64 * q + 64 ≤ length part → k < 8 → take 8 (drop (64 * q + 8 * k) part) ≡ word (blockAt part q) k
-unfolding word
-visible-word part q k r h =
-    let e : 64 * q + 8 * k ≡ 8 * (8 * q + k) = omega arith in
-    ap (λ (z : ℕ). take 8 (drop z part)) e
-    ∙ same-word (word part (8 * q + k)) (blockAt part q) k (length-word part (8 * q + k) (omega arith)) (omega (arith, length-block part q r))
-    (λ i l.
-    let f : 8 * (8 * q + k) + i ≡ 64 * q + (8 * k + i) = omega arith in
-    byte-of-word part (8 * q + k) i l
-    ∙ ap (λ (z : ℕ). getD part z 0) f
-    ∙ sym (ap (λ (z : List ℕ). getD z (8 * k + i) 0) (block-part part q) ∙ getD-take 64 (drop (64 * q) part) (8 * k + i) 0 (omega arith) ∙ getD-drop (64 * q) part (8 * k + i) 0))
+  -- a word of a block is read before it is stored
+  pub built-read : (from k j : ℕ) {part : List ℕ} → part ≡ built j → j ≤ n → k < 8 → (8 * from + k < place + j → 8 * from + k < place) → 64 * from + 64 ≤ length memory
+      → take 8 (drop (64 * from + 8 * k) part) ≡ word (blockAt memory from) k
+  unfolding word
+  built-read from k j e h low out r =
+      let f : 64 * from + 8 * k ≡ 8 * (8 * from + k) = omega arith in
+      ap (λ (z : List ℕ). take 8 (drop (64 * from + 8 * k) z)) e
+      ∙ ap (λ (z : ℕ). take 8 (drop z (built j))) f
+      ∙ built-unread j (8 * from + k) h out
+      ∙ sym (ap (λ (z : ℕ). take 8 (drop z memory)) f)
+      ∙ visible-word memory from k r low
 
 -- ---- the walk over the words of a new block
 
@@ -162,11 +176,7 @@ module _ (memory block : List ℕ) (offset : ℕ) (bytes : List ℕ) (to : ℕ) 
   -- a word at a distance of whole blocks is read before it is stored
   pub merging-unread : (from k : ℕ) {part : List ℕ} {next : ℕ} → k < window .first + window .count → 64 * from + 64 ≤ length memory
       → Merging memory block offset bytes to window part next k → take 8 (drop (64 * from + 8 * k) part) ≡ word (blockAt memory from) k
-  unfolding windowTo word
+  unfolding windowTo
   merging-unread from k h r m =
-      let f : 64 * from + 8 * k ≡ 8 * (8 * from + k) = omega arith in
-      ap (λ (z : List ℕ). take 8 (drop (64 * from + 8 * k) z)) (m .laid)
-      ∙ ap (λ (z : ℕ). take 8 (drop z (lay (take (k - window .first) (windowTo to window fresh)) memory))) f
-      ∙ built-unread memory rest place (window .count) rest-length inside (k - window .first) (8 * from + k) (omega (arith, m .from)) (λ o. omega (arith, o, m .from))
-      ∙ sym (ap (λ (z : ℕ). take 8 (drop z memory)) f)
-      ∙ visible-word memory from k r (omega arith)
+      built-read memory rest place (window .count) rest-length inside from k (k - window .first) (m .laid) (omega (arith, m .from)) (omega arith)
+      (λ o. omega (arith, o, m .from)) r

@@ -153,3 +153,18 @@ pub fn lay_whole(part: &mut [u8], to: usize, bytes: &[u8]) -> usize
     }
     Geometry::BLOCK_WORDS
 }
+
+// A block of the slice stored at another place of it as it is (document 02, No. 7).
+pub fn copy_within(part: &mut [u8], from: usize, to: usize, p: usize) -> usize
+    requires { ⌜ (64 * from + 64 ≤ length (now part)) × (64 * to + 64 ≤ length (now part)) ⌝ }
+    ensures { λ r. ⌜ Lays p (bytesTo (8 * to) 8 (blockAt (now (part .entry)) from)) (now (part .entry)) (now (part .exit)) r ⌝ }
+{
+    let end = least(p, Geometry::BLOCK_WORDS);
+    let mut k = 0;
+    while k < end {
+        let kept = eight_at(part, 64 * from + 8 * k);
+        put_word(part, 8 * to + k, kept);
+        k += 1;
+    }
+    Geometry::BLOCK_WORDS
+}

@@ -103,3 +103,12 @@ free-word word = go (eqb word 0) refl
     go : (b : Bool) → eqb word 0 ≡ b → cond b free (saysOf (word / 256) (stateFor (word % 256))) ≡ free → word ≡ 0
     go true t e = eqb-true word 0 t
     go false t e = named (stateFor (word % 256)) e
+
+-- by its code
+
+pub coded : (word : ℕ) (state : State) → word % 256 ≡ codeOf state → says word ≡ names (word / 256) state
+unfolding wordOf
+coded word state e = let q : word ≡ wordOf (word / 256) state = omega arith in ap says q ∙ says-word (word / 256) state
+
+pub code-named : (word block : ℕ) (state : State) → says word ≡ names block state → word % 256 ≡ codeOf state
+code-named word block state e = ap (λ (x : ℕ). x % 256) (names-word word block state e) ∙ word-code block state
