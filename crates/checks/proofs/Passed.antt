@@ -177,6 +177,11 @@ module _ (board : Board) (unfit : Bool) (n : Number) (ok : Bool) (e : n ≡ firs
 
 -- ---- what is lent
 
+-- 5 TABLE is a refusal
+pub table-refuses : numberOf No.Table ≢ 0
+unfolding numberOf
+table-refuses = suc-ne-zero 4
+
 pub lengths : {board : Board} {m c : ℕ} {t : List ℕ} {g : Geometry} {phase : Phase} → Lent board m c t g phase → Lengths board m c (length t)
 lengths l = record { memory = l .memory; cache = l .cache; table = ap length (l .table) }
 

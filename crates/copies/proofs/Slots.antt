@@ -41,11 +41,6 @@ pub tail-block : (cache : List ℕ) (slot place : ℕ) → bytesTo place 8 (take
 tail-block cache slot place =
     ap (bytesTo place 8) (tail-part (64 * slot) cache) ∙ sym (bytesTo-take 8 place (drop (64 * slot) cache)) ∙ ap (bytesTo place 8) (sym (block-part cache slot))
 
--- 5 TABLE is a refusal
-pub table-refuses : numberOf No.Table ≢ 0
-unfolding numberOf
-table-refuses = suc-ne-zero 4
-
 -- ---- the list, slot by slot
 
 pub mul-sum : (a b : ℕ) → 8 * (a + b) ≡ 8 * a + 8 * b

@@ -16,9 +16,9 @@ unfoldable pub isClean : ℕ → Bool
 isClean word = eqb (word % 256) 1
 
 -- sizes and lengths that fit, and a well formed table
-pub record Sweepable (g : Geometry) (memory table : List ℕ) : Type 0 where
+pub record Sweepable (g : Geometry) (m t : List ℕ) : Type 0 where
   pub blocks : g .blocks ≤ 4096
   pub slots : g .slots ≤ 512
-  pub memory : length memory ≡ 8 * memoryWords g
-  pub table : length table ≡ g .slots
-  pub formed : every (wellFormed (allows Running) g) table ≡ true
+  pub memory : length m ≡ 8 * memoryWords g
+  pub table : length t ≡ g .slots
+  pub formed : every (wellFormed (allows Running) g) t ≡ true

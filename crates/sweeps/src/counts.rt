@@ -1,5 +1,6 @@
 // A sweep's checks and the number of clean entries, found in one walk of the table (document 01, Numbers returned; document 02, No. 7).
 ghost use mathlib.Core.Path.{_≡_};
+ghost use mathlib.Core.Bool.{false};
 ghost use Prim.Native.Nat.{_≤_};
 ghost use lib.ListN.{length};
 ghost use Rattle.rules.specs.Board.{boardOf};
@@ -32,7 +33,7 @@ pub struct Counted {
 }
 
 pub fn clean_for(word: u64) -> usize
-    ensures { λ r. ⌜ r ≡ oneIfClean (says word) ⌝ }
+    ensures { λ r. ⌜ (r ≤ 1) × (r ≡ oneIfClean (says word)) ⌝ }
 {
     if word % 256 == 1 { 1 } else { 0 }
 }

@@ -3,8 +3,7 @@ use mathlib.Core.Path.{refl}
 use native.Mathlib.Omega.{arith}
 use borrow.Author.Tests.{not-true, not-false}
 use Rattle.rules.specs.Board.{boardOf}
-use Rattle.checks.proofs.Passed.{refusing, early-stops, early-passed, table-stops, all-passed, lengths, lent-now}
-use Rattle.copies.proofs.Slots.{table-refuses}
+use Rattle.checks.proofs.Passed.{refusing, early-stops, early-passed, table-stops, table-refuses, all-passed, lengths, lent-now}
 use borrow.Author.Needs.{needs}
 use Rattle.copies.proofs.counts.count_begin.Statement.{statement}
 use Rattle.copies.proofs.counts.count_begin.Tie as tie
