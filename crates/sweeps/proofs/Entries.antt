@@ -242,13 +242,12 @@ module _ (g : Geometry) (memory : List ℕ) (m : length memory ≡ 8 * memoryWor
         (subst (λ (z : List ℕ). Lays (p - words) (bytesTo (8 * homeBlock g (entry .block)) 8 z) memory′ memory″ r) (still-there (entry .slot))
         (subst (λ (n : ℕ). Lays n (copyOf g memory′ entry) memory′ memory″ r) e b)))
 
--- a list laid whole under one allowance is laid under any other that is enough
-pub laid-enough : {p words : ℕ} {stores : List Store} {memory memory′ : List ℕ} (q : ℕ) → length stores ≤ p → length stores ≤ q → Lays p stores memory memory′ words
-    → Lays q stores memory memory′ words
-laid-enough {p} {words} {stores} {memory} q a b l = record {
-  words = l .words;
-  bytes = l .bytes ∙ ap (λ (z : List Store). lay z memory) (take-all p stores a ∙ sym (take-all q stores b));
-}
+-- a block laid whole under one allowance is laid under any other that is enough
+pub block-enough : (place : ℕ) (bytes : List ℕ) {words : ℕ} {memory memory′ : List ℕ} (q : ℕ) → 8 ≤ q → Lays 8 (bytesTo place 8 bytes) memory memory′ words
+    → Lays q (bytesTo place 8 bytes) memory memory′ words
+unfolding bytesTo
+block-enough place bytes {words} {memory} q h l =
+    record { words = l .words; bytes = l .bytes ∙ ap (λ (z : List Store). lay z memory) (sym (take-all q (bytesTo place 8 bytes) h)) }
 
 -- ---- the table with entries hidden
 

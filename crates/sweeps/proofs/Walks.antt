@@ -5,6 +5,7 @@ use mathlib.Core.List.{List, [], _∷_, _++_}
 use Prim.Native.Nat.{ℕ, _+_, _*_, _-_, _/_, _≤_, _<_}
 use native.Mathlib.Omega.{arith}
 use lib.ListN.{length, take, getD, set, length-append, length-take}
+use lib.Seq.{take-all}
 use Rattle.words.specs.Words.{Store, Lays, lay, bytesTo, blockAt}
 use Rattle.words.proofs.All.{All, all-take}
 use Rattle.words.proofs.Laying.{lays-nothing}
@@ -92,3 +93,10 @@ module _ (g : Geometry) (memory table : List ℕ) (s : Sweepable g memory table)
   walk-ends {memory′} {slot} {done} w e =
       let same : length (met table slot) ≡ entries = omega (arith, w .few, w .count) in
       met-lowest table slot ∙ ap (λ (k : ℕ). take k (cleanFrom 0 table)) same
+
+  -- where the allowance is enough for all, nothing is cut off
+  pub walk-whole : {memory′ : List ℕ} {slot done : ℕ} → 8 * entries ≤ p → Walked g memory table p entries memory′ slot done
+      → memory′ ≡ lay (homeCopies g memory (met table slot)) memory
+  walk-whole {memory′} {slot} {done} h w =
+      w .laid .bytes
+      ∙ ap (λ (z : List Store). lay z memory) (take-all p (homeCopies g memory (met table slot)) (omega (arith, w .laid .words, w .few)))

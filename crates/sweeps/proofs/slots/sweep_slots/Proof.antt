@@ -7,10 +7,10 @@ use lib.Seq.{take-all}
 use denote.Ref.{now}
 use Rattle.words.specs.Words.{Store, Lays, lay}
 use Rattle.checks.specs.Tables.{Next}
-use Rattle.rules.specs.Sweeps.{CleanEntry, homeCopies, hidden}
+use Rattle.rules.specs.Sweeps.{CleanEntry, cleanFrom, homeCopies, hidden}
 use Rattle.sweeps.specs.Entries.{isClean}
-use Rattle.sweeps.proofs.Entries.{met, laid-enough}
-use Rattle.sweeps.proofs.Walks.{next-as, met-unread, Walked, walk-starts, walk-finds, walk-block, walk-more, hidden-more, walk-ends}
+use Rattle.sweeps.proofs.Entries.{met, block-enough}
+use Rattle.sweeps.proofs.Walks.{word-still, next-still, Walked, walk-starts, walk-finds, walk-block, walk-more, hidden-more, walk-ends, walk-whole}
 use borrow.Author.Needs.{needs}
 use Rattle.sweeps.proofs.slots.sweep_slots.Statement.{statement}
 use Rattle.sweeps.proofs.slots.sweep_slots.Tie as tie
@@ -59,7 +59,14 @@ copy-home-requires c κs =
 
 -- src/slots.rt:71:23
 add-table : tie.Need-add-table Inv-loop μ-loop
-add-table c = search needs
+add-table c =
+    let a = c .before .before .before .before .before .before .before .before .before .before .before .args in
+    let q = c .before .before .before .before .before .before .before .before .before .before .before .pre in
+    let v = c .before .before .before .before .before .before .before .before .loop .inv in
+    let n = next-still (a .g) (now (a .memory)) (now (a .table)) (q .0) (8 * a .entries) (a .entries) (q .1) (v .0 .within) (v .1) (v .2) (c .before .before .before .before .before .next-clean .ensures) in
+    let word = word-still (a .g) (now (a .memory)) (now (a .table)) (q .0) (8 * a .entries) (a .entries) (q .1) (v .0 .within) (v .1) (v .2) (c .before .before .before .before .before .next-clean .result) (n .after) in
+    let block = walk-block (a .g) (now (a .memory)) (now (a .table)) (q .0) (8 * a .entries) (a .entries) (q .1) (v .0) (c .before .before .before .before .before .before .before .loop-test .taken) n in
+    omega (arith, word, block, q .0 .blocks)
 
 -- src/slots.rt:71:9
 mul-table : tie.Need-mul-table Inv-loop μ-loop
@@ -67,7 +74,12 @@ mul-table c = search needs
 
 -- src/slots.rt:71:9
 slice-write-table : tie.Need-slice-write-table Inv-loop μ-loop
-slice-write-table c = search needs
+slice-write-table c =
+    let a = c .before .before .before .before .before .before .before .before .before .before .before .args in
+    let q = c .before .before .before .before .before .before .before .before .before .before .before .pre in
+    let v = c .before .before .before .before .before .before .before .before .loop .inv in
+    let n = next-still (a .g) (now (a .memory)) (now (a .table)) (q .0) (8 * a .entries) (a .entries) (q .1) (v .0 .within) (v .1) (v .2) (c .before .before .before .before .before .next-clean .ensures) in
+    omega (arith, v .1, walk-finds (a .g) (now (a .memory)) (now (a .table)) (q .0) (8 * a .entries) (a .entries) (q .1) (v .0) (c .before .before .before .before .before .before .before .loop-test .taken) n)
 
 -- src/slots.rt:72:9
 add-slot : tie.Need-add-slot Inv-loop μ-loop
@@ -83,19 +95,34 @@ loop-less c = search needs
 
 -- src/slots.rt:67:5
 loop-again : tie.Need-loop-again Inv-loop μ-loop
-loop-again c = search needs
+loop-again c =
+    let a = c .before .before .before .before .before .before .before .before .before .before .before .args in
+    let q = c .before .before .before .before .before .before .before .before .before .before .before .pre in
+    let v = c .before .before .before .before .before .before .before .before .loop .inv in
+    let n = next-still (a .g) (now (a .memory)) (now (a .table)) (q .0) (8 * a .entries) (a .entries) (q .1) (v .0 .within) (v .1) (v .2) (c .before .before .before .before .before .next-clean .ensures) in
+    let word = word-still (a .g) (now (a .memory)) (now (a .table)) (q .0) (8 * a .entries) (a .entries) (q .1) (v .0 .within) (v .1) (v .2) (c .before .before .before .before .before .next-clean .result) (n .after) in
+    let e = c .before .before .copy-home .ensures in (
+      walk-more (a .g) (now (a .memory)) (now (a .table)) (q .0) (8 * a .entries) (a .entries) (q .1) (v .0) (c .before .before .before .before .before .before .before .loop-test .taken) n (8 * a .entries - 8 * c .before .before .before .before .before .before .before .before .loop .done) refl (c .before .before .copy-home .kept .0) (block-enough _ _ _ (omega (arith, c .before .before .before .before .before .before .before .loop-test .taken)) (rw word at e)),
+      simp length-set (v .1),
+      hidden-more (a .g) (now (a .memory)) (now (a .table)) (q .0) (8 * a .entries) (a .entries) (q .1) (v .0) (c .before .before .before .before .before .before .before .loop-test .taken) n _ word (v .2),
+    )
 
 -- src/slots.rt:61:1
 same-length : tie.Need-same-length Inv-loop μ-loop
-same-length c = search needs
+same-length c = c .before .loop .inv .0 .size
 
 -- src/slots.rt:61:1
 same-length-2 : tie.Need-same-length-2 Inv-loop μ-loop
-same-length-2 c = search needs
+same-length-2 c = c .before .loop .inv .1
 
 -- src/slots.rt:61:1
 returns : tie.Need-returns Inv-loop μ-loop
-returns c = search needs
+returns c =
+    let a = c .before .before .before .before .args in
+    let q = c .before .before .before .before .pre in
+    let v = c .before .loop .inv in
+    let met-all = walk-ends (a .g) (now (a .memory)) (now (a .table)) (q .0) (8 * a .entries) (a .entries) (q .1) (v .0) (omega (arith, c .loop-test .left)) in
+    (walk-whole (a .g) (now (a .memory)) (now (a .table)) (q .0) (8 * a .entries) (a .entries) (q .1) (omega arith) (v .0) ∙ ap (λ (z : List CleanEntry). lay (homeCopies (a .g) (now (a .memory)) z) (now (a .memory))) met-all, v .2 ∙ ap (λ (z : List CleanEntry). hidden z (now (a .table))) met-all)
 
 pub sweep-slots-spec : {M : Type 1} → statement M
 sweep-slots-spec =
