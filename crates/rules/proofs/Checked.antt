@@ -45,6 +45,11 @@ common-passed board unfit checks e =
     let p5 = passed _ No.Table _ (suc-ne-zero 4) (p4 .1) in
     (record { fine = p1 .0; exact = p2 .0; count = p3 .0; awake = p4 .0; formed = p5 .0 }, p5 .1)
 
+-- the checks 1 to 5 passed, the number is that of the others
+pub past-common : {board : Board} {unfit : Bool} → Common board unfit → (checks : List Check) → firstOf (commonChecks board unfit ++ checks) ≡ firstOf checks
+unfolding commonChecks firstOf
+past-common c checks = rw (c .fine, c .exact, c .count, c .awake, c .formed)
+
 -- ---- sizes and lengths
 
 pub record Bounds (g : Geometry) : Type 0 where

@@ -74,8 +74,10 @@ over-itself (b ∷ block) = ap (λ (z : List ℕ). b ∷ z) (over-itself block)
 
 -- what a sweep of these entries must keep, whole and stopped after any of its words
 pub record Swept (board : Board) (plain : Plain) (entries : List CleanEntry) : Type 0 where
-  pub whole : Inv (record { memory = lay (homeCopies (sizes board) (board .memory) entries) (board .memory);
-    volatile = record { cache = cacheOf board; table = hidden entries (tableOf board); controller = board .volatile .controller } }) plain
+  pub whole : Inv (record {
+    memory = lay (homeCopies (sizes board) (board .memory) entries) (board .memory);
+    volatile = record { cache = cacheOf board; table = hidden entries (tableOf board); controller = board .volatile .controller };
+  }) plain
   pub halt : (p : ℕ) → Inv (record { memory = lay (take p (homeCopies (sizes board) (board .memory) entries)) (board .memory); volatile = switchedOff board (board .volatile) }) plain
   pub unmarked : All (Below (markStart (sizes board))) (homeCopies (sizes board) (board .memory) entries)
 

@@ -24,6 +24,7 @@ pub mod Demand3
 pub mod NoneFinished
 pub mod Demand2
 pub mod Moves
+pub mod SweepMoves
 pub mod ShortStores
 pub mod LetteredCases
 pub mod Pinned
