@@ -25,6 +25,7 @@ pub mod NoneFinished
 pub mod Demand2
 pub mod Moves
 pub mod SweepMoves
+pub mod SweepLoads
 pub mod ShortStores
 pub mod LetteredCases
 pub mod Pinned
