@@ -26,6 +26,7 @@ pub mod Demand2
 pub mod Moves
 pub mod SweepMoves
 pub mod SweepLoads
+pub mod RoomAgain
 pub mod ShortStores
 pub mod LetteredCases
 pub mod Pinned

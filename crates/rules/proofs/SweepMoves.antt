@@ -104,7 +104,7 @@ hides-from (suc limit) slot front (word ∷ rest) here =
         ∙ as-many
         ∙ ap (λ (table : List ℕ). front ++ table) (sym (over .stays word (sweptTable (suc limit) rest) (sweptTable limit rest)))
 
-pub hides : (limit : ℕ) (table : List ℕ) → hidden (lowestClean limit table) table ≡ sweptTable limit table
+hides : (limit : ℕ) (table : List ℕ) → hidden (lowestClean limit table) table ≡ sweptTable limit table
 unfolding lowestClean
 hides limit table = hides-from limit 0 [] table refl
 
@@ -156,11 +156,16 @@ swept-word (suc limit) (word ∷ table) zero = lowest-word limit word table (swe
 swept-word (suc limit) (word ∷ table) (suc slot) =
     word-above limit word table (sweptTable (suc limit) table) (sweptTable limit table) slot (swept-word (suc limit) table slot) (swept-word limit table slot)
 
+-- an accepted sweep leaves this table
+pub sweep-table : (p limit : ℕ) (board : Board) → numberOf (call p board (sweep limit) .number) ≡ 0
+    → tableOf (call p board (sweep limit) .board) ≡ sweptTable limit (tableOf board)
+unfolding StatesMove Leaves
+sweep-table p limit board e = states-move p board (sweep limit) .0 e ∙ hides limit (tableOf board)
+
 pub swept-slots : SweptSlots
-unfolding SweptSlots StatesMove Leaves
+unfolding SweptSlots
 swept-slots p limit board slot e =
-    subst (λ (table : List ℕ). SweptWord limit (tableOf board) slot (getD table slot 0)) (sym (states-move p board (sweep limit) .0 e ∙ hides limit (tableOf board)))
-    (swept-word limit (tableOf board) slot)
+    subst (λ (table : List ℕ). SweptWord limit (tableOf board) slot (getD table slot 0)) (sym (sweep-table p limit board e)) (swept-word limit (tableOf board) slot)
 
 -- ---- the answer
 

@@ -1,42 +1,40 @@
 -- The entries of a sweep, each as a store of its block's unchanged bytes.
-use mathlib.Core.Path.{_≡_, refl, sym, ap, _∙_, subst}
+use mathlib.Core.Path.{_≡_, refl, sym, ap, _∙_}
 use mathlib.Core.Bool.{true, false, cond}
 use mathlib.Core.List.{List, [], _∷_, _++_, append-nil}
 use Prim.Native.Nat.{ℕ, zero, suc, _+_, _*_, _≤_, _<_}
 use native.Mathlib.Omega.{arith}
 use native.Mathlib.Nat.{suc-ne-zero}
 use native.Mathlib.Decide.{ℕ-discrete}
-use lib.Dec.{eqb, ltb}
+use lib.Dec.{eqb}
 use lib.ListN.{length, take, drop, getD, set, length-set, drop-of-length-le}
 use lib.Seq.{getD-set-other}
-use borrow.Author.Tests.{ltb-true, eq-eqb, ne-eqb, not-false}
+use borrow.Author.Tests.{eq-eqb, ne-eqb}
 use Rattle.words.specs.Words.{blockAt, Store, lay, bytesTo}
 use Rattle.words.proofs.All.{All}
 use Rattle.words.proofs.Lists.{lay-append}
 use Rattle.words.proofs.Makers.{Laid}
 use Rattle.words.proofs.Blocks.{block-stores, block-laid-other}
-use Rattle.rules.specs.declared.Geometry.{Geometry}
 use Rattle.rules.specs.declared.Phase.{Phase}
 use Rattle.rules.specs.declared.Phase.the-variants.{Running, Writing, Off}
-use Rattle.rules.specs.declared.State.{State}
 use Rattle.rules.specs.declared.State.the-variants.{Clean, Dirty, Hidden, PreHidden, PreDirty}
 use Rattle.rules.specs.declared.Lookup.{Lookup}
 use Rattle.rules.specs.declared.Lookup.the-variants.{Entry}
 use Rattle.rules.specs.declared.Number.{Number}
 use Rattle.rules.specs.declared.Number.the-variants as No
 use Rattle.rules.specs.Geometry.{homeBlock, checkpointBlock}
-use Rattle.rules.specs.TableWords.{wordOf, Says, free, names, neither, says, lookup, lowestFree, every}
+use Rattle.rules.specs.TableWords.{wordOf, Says, free, names, neither, says, lookup, lowestFree}
 use Rattle.rules.specs.Board.{Board, sizes, phaseOf, cacheOf, tableOf}
-use Rattle.rules.specs.Numbers.{numberOf, _⇒_, firstOf, allows, wellSaid, wellFormed, malformed, commonChecks, inexact, isOff, isWriting}
+use Rattle.rules.specs.Numbers.{numberOf, _⇒_, firstOf, allows, wellFormed, commonChecks, inexact, isOff, isWriting}
 use Rattle.rules.specs.Power.{Plan, carry, guard}
 use Rattle.rules.specs.Loads.{spotOf, spotIn, blockIn, visible, seen}
 use Rattle.rules.specs.Stores.{replaced, stores, moveIn, slotFor, full, storeNumber, isShort, windowFor, layAt, moved, movedTo, storeBy, storePlan}
 use Rattle.rules.specs.Sweeps.{CleanEntry, cleanBy, cleanFrom, lowestClean, homeCopies, hidden, sweepNumber}
 use Rattle.rules.specs.PlainMachine.{update}
-use Rattle.rules.proofs.Clashes.{false-true, and-left, or-false}
+use Rattle.rules.proofs.Clashes.{false-true, or-false}
 use Rattle.rules.proofs.Finding.{Finds, finds-lookup}
-use Rattle.rules.proofs.Changing.{every-all, all-get}
-use Rattle.rules.proofs.Checked.{passed, Common, common-passed, Lent, exact-lent}
+use Rattle.rules.proofs.Changing.{all-get}
+use Rattle.rules.proofs.Checked.{passed, Common, common-passed, common-formed, formed-names, Lent, exact-lent}
 use Rattle.rules.proofs.KeepsStore.{seen-length}
 use Rattle.rules.proofs.LiveShown.{in-range-false}
 use Rattle.rules.proofs.Windows.{window-all}
@@ -131,20 +129,12 @@ pub open-lent : {board : Board} → Open board → Lent (sizes board) board
 open-lent {board} o = exact-lent (sizes board) board (or-false (inexact (sizes board) board) false (o .common .exact) .0)
 
 pub open-formed : {board : Board} → Open board → All (λ w. wellFormed (allows Running) (sizes board) w ≡ true) (tableOf board)
-unfolding malformed
-open-formed {board} o =
-    every-all (wellFormed (allows Running) (sizes board)) (tableOf board)
-    (subst (λ (phase : Phase). every (wellFormed (allows phase) (sizes board)) (tableOf board) ≡ true) (o .running) (not-false _ (o .common .formed)))
-
-formed-block : (g : Geometry) (word block : ℕ) (state : State) → wellFormed (allows Running) g word ≡ true → says word ≡ names block state → block < g .blocks
-unfolding wellFormed wellSaid
-formed-block g word block state f e =
-    ltb-true block (g .blocks) (and-left (ltb block (g .blocks)) (allows Running state) (sym (ap (wellSaid (allows Running) g) e) ∙ f))
+open-formed o = common-formed (o .common) Running (o .running)
 
 -- the block that a clean entry names is one of the board's
 pub swept-block : {board : Board} → Open board → (slot block : ℕ) → slot < length (tableOf board) → says (getD (tableOf board) slot 0) ≡ names block Clean
     → block < sizes board .blocks
-swept-block {board} o slot block h e = formed-block (sizes board) (getD (tableOf board) slot 0) block Clean (all-get slot (open-formed o) h) e
+swept-block {board} o slot block h e = formed-names (allows Running) (sizes board) (getD (tableOf board) slot 0) block Clean (all-get slot (open-formed o) h) e .0
 
 -- ---- one entry
 
