@@ -20,7 +20,6 @@ use Rattle.rules.specs.declared.Phase.{Phase}
 use Rattle.rules.specs.declared.Phase.the-variants.{Running, Writing, Off}
 use Rattle.rules.specs.declared.State.the-variants.{Clean, Hidden}
 use Rattle.rules.specs.declared.Lookup.the-variants.{Entry}
-use Rattle.rules.specs.declared.Number.the-variants as No
 use Rattle.rules.specs.Geometry.{homeBlock, checkpointBlock, markStart}
 use Rattle.rules.specs.TableWords.{wordOf}
 use Rattle.rules.specs.Board.{Board, sizes, phaseOf, cacheOf, tableOf}

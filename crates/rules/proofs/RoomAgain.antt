@@ -41,11 +41,11 @@ use Rattle.rules.proofs.SweepMoves.{sweptBy, sweptTable, CleanOrNot, is
 
 -- ---- words that the next begin frees
 
--- the slot is free after a begin
+-- the next begin frees the slot
 unfoldable Leaving : ℕ → Type 0
 Leaving word = changed begun word ≡ 0
 
--- or a sweep comes first
+-- or its entry is clean, and a sweep must come before
 unfoldable Quiet : ℕ → Type 0
 unfolding Leaving
 Quiet word = Leaving word ⊎ ((block : ℕ) × (says word ≡ names block Clean))
@@ -186,16 +186,21 @@ empty-table board after p₁ p₂ p₃ p₄ all₁ all₂ registers₁ registers
 
 -- ---- the slot is taken again
 
+no-entry-found : (block : ℕ) (table : List ℕ) → NoEntry block table → lookup block table ≡ Nothing
+unfolding NoEntry
+no-entry-found block table none-there =
+    finds-lookup (finds-nothing block table (λ i h. record { never = λ state e. none-there i state h (names-word (getD table i 0) block state e) }))
+
 -- a store while Writing goes to CACHE, so that no supply cuts it; a free slot is room
 module _ (board : Board) (count slot : ℕ) (writing : phaseOf board ≡ Writing count) (inside : slot < length (tableOf board)) (room : getD (tableOf board) slot 0 ≡ 0)
     (block offset : ℕ) (bytes : List ℕ) (checked : numberOf (loadNumber board block offset (length bytes)) ≡ 0) where
   abbrev table : List ℕ
   table = tableOf board
 
-  -- no entry that is dirty or hidden stands in the table then
-  unwritten : (i : ℕ) (state : State) → Finds block table (Entry i state) → whileWriting state ≡ true
+  -- an entry that is found is one that Writing allows: neither dirty nor hidden
+  writing-state : (i : ℕ) (state : State) → Finds block table (Entry i state) → whileWriting state ≡ true
   unfolding loadNumber allows
-  unwritten i state f =
+  writing-state i state f =
       let common = common-passed board false ((outOfRange board block offset (length bytes) ⇒ No.Range) ∷ []) checked .0 in
       formed-names whileWriting (sizes board) (getD table i 0) block state (all-get i (common-formed common (Writing count) writing) (found-lt f)) (found-at f) .1
 
@@ -219,20 +224,17 @@ module _ (board : Board) (count slot : ℕ) (writing : phaseOf board ≡ Writing
       go Nothing f none v = absurd (all-get slot v inside (ap says room ∙ says-zero))
       go Nothing f (some lowest) v = uncut _
       go (Entry i Clean) f z v = uncut _
-      go (Entry i Dirty) f z v = absurd (false-true (unwritten i Dirty f))
-      go (Entry i Hidden) f z v = absurd (false-true (unwritten i Hidden f))
+      go (Entry i Dirty) f z v = absurd (false-true (writing-state i Dirty f))
+      go (Entry i Hidden) f z v = absurd (false-true (writing-state i Hidden f))
       go (Entry i PreHidden) f z v = uncut _
       go (Entry i PreDirty) f z v = uncut _
 
   store-takes : (q : ℕ) → TakesSlot slot board block (call q board (store block offset bytes))
-  unfolding StatesMove Leaves NoEntry slotFor moveIn stores
+  unfolding StatesMove Leaves slotFor moveIn stores
   store-takes q = record { accepted = store-accepted q; taken = taken }
     where
       left : StoreLeaves board block offset bytes (call q board (store block offset bytes) .board)
       left = states-move q board (store block offset bytes) .0 (store-accepted q)
-
-      nothing : NoEntry block table → lookup block table ≡ Nothing
-      nothing no-entry = finds-lookup (finds-nothing block table (λ i h. record { never = λ state e. no-entry i state h (names-word (getD table i 0) block state e) }))
 
       taken : NoEntry block table
           → (lowest : ℕ)
@@ -240,8 +242,8 @@ module _ (board : Board) (count slot : ℕ) (writing : phaseOf board ≡ Writing
           × (getD table lowest 0 ≡ 0)
           × ((lower : ℕ) → lower < lowest → getD table lower 0 ≢ 0)
           × (tableOf (call q board (store block offset bytes) .board) ≡ set table lowest (wordOf block PreDirty))
-      taken no-entry =
-          let none-found = nothing no-entry in
+      taken none-there =
+          let none-found = no-entry-found block table none-there in
           let lowest = left .slot in
           let is-lowest : lowestFree table ≡ some lowest = ap (λ (r : Lookup). slotFor r (lowestFree table)) (sym none-found) ∙ left .taken in
           let v : Vacant table lowest = subst (VacantAt table) is-lowest (vacant table) in
