@@ -9,7 +9,7 @@ use native.Mathlib.Nat.{suc-ne-zero}
 use lib.Dec.{eqb, leb, leb·zero}
 use lib.ListN.{length, take}
 use lib.Seq.{take-all, length-take-le}
-use borrow.Author.Tests.{eqb-true, eqb-false, leb-true, leb-false}
+use borrow.Author.Tests.{eqb-true, eqb-false, eq-eqb, leb-true, leb-false}
 use Rattle.words.specs.Words.{words, Store, lay, number}
 use Rattle.rules.specs.declared.Number.{Number}
 use Rattle.rules.specs.Board.{Board, Volatile, cacheOf, tableOf}
@@ -93,6 +93,11 @@ counted p board (carry ws after gives) = go (leb (length ws) p) refl
     go t e = record { count = count (leb (length ws) p) refl; memory = memory (leb (length ws) p) refl }
 
 -- ---- accepted calls
+
+-- checks passed, a plan behind them is the plan
+pub past-guard : (n : Number) (q : Plan) → numberOf n ≡ 0 → guard n q ≡ q
+unfolding guard
+past-guard n q e = rw (eq-eqb (numberOf n) 0 e)
 
 -- an accepted plan behind its checks passed them
 pub guard-accepted : (p : ℕ) (board : Board) (n : Number) (q : Plan) → numberOf (settle p board (guard n q) .number) ≡ 0

@@ -1,23 +1,27 @@
 -- What follows when checks are passed, and when the lent lengths are exact.
-use mathlib.Core.Path.{_≡_, refl, sym, _∙_}
+use mathlib.Core.Path.{_≡_, refl, sym, ap, _∙_, subst}
 use mathlib.Core.Logic.{_≢_}
 use mathlib.Core.Bool.{Bool, true, false, _&&_, _||_}
 use mathlib.Core.List.{List, _∷_, _++_}
 use mathlib.Core.Option.{some}
-use Prim.Native.Nat.{ℕ, _+_, _*_, _-_, _≤_, _<_}
+use Prim.Native.Nat.{ℕ, _+_, _*_, _≤_, _<_}
 use native.Mathlib.Omega.{arith}
 use native.Mathlib.Nat.{suc-ne-zero}
-use lib.Dec.{eqb, leb}
+use lib.Dec.{eqb, leb, ltb}
 use lib.ListN.{length}
-use borrow.Author.Tests.{eqb-true, eqb-false, eq-eqb, not-false, leb-true, leb-false, ltb-false}
+use borrow.Author.Tests.{eqb-true, eqb-false, eq-eqb, not-false, leb-true, leb-false, ltb-true, ltb-false}
+use Rattle.words.proofs.All.{All}
 use Rattle.rules.specs.declared.Geometry.{Geometry}
-use Rattle.rules.specs.declared.Phase.the-variants.{Off}
+use Rattle.rules.specs.declared.Phase.{Phase}
+use Rattle.rules.specs.declared.State.{State}
 use Rattle.rules.specs.declared.Number.{Number}
 use Rattle.rules.specs.declared.Number.the-variants as No
 use Rattle.rules.specs.Geometry.{memoryWords}
+use Rattle.rules.specs.TableWords.{names, says, every}
 use Rattle.rules.specs.Board.{Board, sizes, phaseOf, cacheOf, tableOf}
-use Rattle.rules.specs.Numbers.{numberOf, Check, _⇒_, firstOf, outside, inexact, overCount, isOff, malformed, commonChecks, noBlock, outOfRange}
+use Rattle.rules.specs.Numbers.{numberOf, Check, _⇒_, firstOf, outside, inexact, overCount, isOff, allows, wellSaid, wellFormed, malformed, commonChecks, noBlock, outOfRange}
 use Rattle.rules.proofs.Clashes.{and-left, and-right, or-false}
+use Rattle.rules.proofs.Changing.{every-all}
 use Rattle.rules.proofs.Saving.{blocks-low}
 
 -- the first of these checks is not the one that applies
@@ -44,6 +48,28 @@ common-passed board unfit checks e =
     let p4 = passed _ No.Off _ (suc-ne-zero 3) (p3 .1) in
     let p5 = passed _ No.Table _ (suc-ne-zero 4) (p4 .1) in
     (record { fine = p1 .0; exact = p2 .0; count = p3 .0; awake = p4 .0; formed = p5 .0 }, p5 .1)
+
+-- the checks 1 to 5 passed, the number is that of the others
+pub past-common : {board : Board} {unfit : Bool} → Common board unfit → (checks : List Check) → firstOf (commonChecks board unfit ++ checks) ≡ firstOf checks
+unfolding commonChecks firstOf
+past-common c checks = rw (c .fine, c .exact, c .count, c .awake, c .formed)
+
+-- ---- table words
+
+-- the check 5 passed, word by word
+pub common-formed : {board : Board} {unfit : Bool} → Common board unfit → (phase : Phase) → phaseOf board ≡ phase
+    → All (λ w. wellFormed (allows phase) (sizes board) w ≡ true) (tableOf board)
+unfolding malformed
+common-formed {board} c phase e =
+    every-all (wellFormed (allows phase) (sizes board)) (tableOf board)
+    (subst (λ (now : Phase). every (wellFormed (allows now) (sizes board)) (tableOf board) ≡ true) e (not-false _ (c .formed)))
+
+pub formed-names : (allowed : State → Bool) (g : Geometry) (word block : ℕ) (state : State) → wellFormed allowed g word ≡ true → says word ≡ names block state
+    → (block < g .blocks) × (allowed state ≡ true)
+unfolding wellFormed wellSaid
+formed-names allowed g word block state f e =
+    let both = sym (ap (wellSaid allowed g) e) ∙ f in
+    (ltb-true block (g .blocks) (and-left (ltb block (g .blocks)) (allowed state) both), and-right (ltb block (g .blocks)) (allowed state) both)
 
 -- ---- sizes and lengths
 

@@ -1,47 +1,42 @@
 -- A sweep keeps the invariant: entry by entry it is a store of unchanged bytes.
 use mathlib.Core.Path.{_≡_, refl, sym, ap, _∙_, subst}
-use mathlib.Core.Logic.{_≢_}
-use mathlib.Core.Bool.{Bool, true, false, cond}
+use mathlib.Core.Bool.{Bool, true, false}
 use mathlib.Core.List.{List, [], _∷_, _++_, append-nil}
-use Prim.Native.Nat.{ℕ, zero, suc, _+_, _*_, _-_, _≤_, _<_}
+use Prim.Native.Nat.{ℕ, _*_, _-_, _≤_, _<_}
 use native.Mathlib.Omega.{arith}
-use native.Mathlib.Nat.{suc-ne-zero, not-suc-le-zero}
-use native.Mathlib.Decide.{ℕ-discrete}
-use lib.Dec.{eqb, leb}
+use native.Mathlib.Nat.{suc-ne-zero}
+use lib.Dec.{leb}
 use lib.ListN.{length, take, set, length-set}
 use lib.Seq.{take-all}
-use borrow.Author.Tests.{eq-eqb, ne-eqb, leb-true, leb-false}
+use borrow.Author.Tests.{leb-true, leb-false}
 use Rattle.words.specs.Words.{blockAt, Store, lay, bytesTo}
-use Rattle.words.proofs.All.{All, done, also, all-map, all-take, all-append}
+use Rattle.words.proofs.All.{All, done, all-map, all-take, all-append}
 use Rattle.words.proofs.Lists.{lay-append}
 use Rattle.words.proofs.Laying.{take-both}
 use Rattle.words.proofs.Rising.{Below}
 use Rattle.words.proofs.Makers.{Laid}
-use Rattle.words.proofs.Blocks.{block-stores, length-block}
 use Rattle.rules.specs.declared.Geometry.{Geometry}
 use Rattle.rules.specs.declared.Phase.{Phase}
 use Rattle.rules.specs.declared.Phase.the-variants.{Running, Writing, Off}
 use Rattle.rules.specs.declared.State.the-variants.{Clean, Hidden}
 use Rattle.rules.specs.declared.Lookup.the-variants.{Entry}
-use Rattle.rules.specs.declared.Number.the-variants as No
 use Rattle.rules.specs.Geometry.{homeBlock, checkpointBlock, markStart}
 use Rattle.rules.specs.TableWords.{wordOf}
-use Rattle.rules.specs.Board.{Board, Volatile, sizes, phaseOf, cacheOf, tableOf}
-use Rattle.rules.specs.Numbers.{numberOf, _⇒_, isOff, isWriting}
-use Rattle.rules.specs.Power.{Plan, carry, switchedOff}
+use Rattle.rules.specs.Board.{Board, sizes, phaseOf, cacheOf, tableOf}
+use Rattle.rules.specs.Numbers.{isOff}
+use Rattle.rules.specs.Power.{carry, switchedOff}
 use Rattle.rules.specs.Loads.{seen}
-use Rattle.rules.specs.Stores.{storePlan}
 use Rattle.rules.specs.Sweeps.{CleanEntry, lowestClean, homeCopies, hidden, sweepNumber, sweepPlan}
 use Rattle.rules.specs.Calls.{store, sweep}
-use Rattle.rules.specs.PlainMachine.{Plain, laidOver, overlaid, update, did, hasMark, note}
+use Rattle.rules.specs.PlainMachine.{Plain, laidOver, overlaid, update, did, hasMark}
 use Rattle.rules.proofs.Clashes.{false-true}
 use Rattle.rules.proofs.Finding.{Finds}
 use Rattle.rules.proofs.Apart.{Apart, apart-finds}
-use Rattle.rules.proofs.Checked.{passed, Common, common-passed, lent-exact}
-use Rattle.rules.proofs.Invariant.{Live, Mode, is-running, is-writing, is-off, Inv, Keeps, k-carry, did-not, no-mark, note-unmarked, guarded, stopped}
+use Rattle.rules.proofs.Checked.{lent-exact}
+use Rattle.rules.proofs.Invariant.{Mode, is-running, is-writing, is-off, Inv, Keeps, k-carry, did-not, no-mark, note-unmarked, guarded, stopped}
 use Rattle.rules.proofs.KeepsStore.{store-keeps}
 use Rattle.rules.proofs.LiveShown.{live-shown, awake-passed}
-use Rattle.rules.proofs.Sweeping.{Waiting, no-more, and-above, waiting-set, lowest-waiting, Open, open-lent, swept-block, sweptOnce, shown, whole-block, as-store, reads-on}
+use Rattle.rules.proofs.Sweeping.{Waiting, and-above, waiting-set, lowest-waiting, Open, sweep-open, swept-block, sweptOnce, sweptAll, update-itself, copy-laid, as-store, reads-on, first-then}
 
 -- ---- the plain machine: a store of unchanged bytes changes no block
 
@@ -74,8 +69,7 @@ over-itself (b ∷ block) = ap (λ (z : List ℕ). b ∷ z) (over-itself block)
 
 -- what a sweep of these entries must keep, whole and stopped after any of its words
 pub record Swept (board : Board) (plain : Plain) (entries : List CleanEntry) : Type 0 where
-  pub whole : Inv (record { memory = lay (homeCopies (sizes board) (board .memory) entries) (board .memory);
-    volatile = record { cache = cacheOf board; table = hidden entries (tableOf board); controller = board .volatile .controller } }) plain
+  pub whole : Inv (sweptAll board entries) plain
   pub halt : (p : ℕ) → Inv (record { memory = lay (take p (homeCopies (sizes board) (board .memory) entries)) (board .memory); volatile = switchedOff board (board .volatile) }) plain
   pub unmarked : All (Below (markStart (sizes board))) (homeCopies (sizes board) (board .memory) entries)
 
@@ -125,9 +119,7 @@ module _ (board : Board) (plain : Plain) (v : Inv board plain) (ph : phaseOf boa
   copy = bytesTo (8 * homeBlock g block) 8 (blockAt (board .memory) (checkpointBlock g slot))
 
   laid : Laid (8 * homeBlock g block) 8 (length (board .memory)) copy
-  laid =
-      block-stores block (length (board .memory)) (blockAt (board .memory) (checkpointBlock g slot))
-      (sym (ap length (shown board o slot block found below)) ∙ whole-block board o slot block found below) (omega (arith, below, v .lent .memory))
+  laid = copy-laid board o slot block found below
 
   copy-below : All (Below (markStart g)) copy
   copy-below = all-map (λ s h. record { under = omega (arith, h .high, below) }) (laid .inside)
@@ -138,15 +130,10 @@ module _ (board : Board) (plain : Plain) (v : Inv board plain) (ph : phaseOf boa
     pub halt : (p : ℕ) → p < 8 → Inv (record { memory = lay (take p copy) (board .memory); volatile = switchedOff board (board .volatile) }) plain
 
   unchanged : (k : ℕ) → k < g .blocks → update (plain .live) block (overlaid (plain .live block) 0 bytes) k ≡ plain .live k
-  unfolding update overlaid
-  unchanged k h = go (ℕ-discrete k block)
-    where
-      same : overlaid (plain .live block) 0 bytes ≡ plain .live block
-      same = ap (laidOver (plain .live block)) (live-shown board plain v block below (o .common .awake)) ∙ over-itself (plain .live block)
-
-      go : Dec (k ≡ block) → cond (eqb k block) (overlaid (plain .live block) 0 bytes) (plain .live k) ≡ plain .live k
-      go (yes e) = rw (eq-eqb k block e) (same ∙ ap (plain .live) (sym e))
-      go (no ne) = rw (ne-eqb k block ne)
+  unfolding overlaid
+  unchanged k h =
+      update-itself (plain .live) block (overlaid (plain .live block) 0 bytes)
+      (ap (laidOver (plain .live block)) (live-shown board plain v block below (o .common .awake)) ∙ over-itself (plain .live block)) k
 
   once : Once
   unfolding did
@@ -168,18 +155,13 @@ module _ (board : Board) (plain : Plain) (v : Inv board plain) (ph : phaseOf boa
   one-more : (entries : List CleanEntry) → Swept (sweptOnce board slot block) plain entries → Swept board plain (record { slot = slot; block = block } ∷ entries)
   unfolding homeCopies hidden lay
   one-more entries later = record {
-    whole =
-        subst (λ (m : List ℕ). Inv (record { memory = m; volatile = after }) plain) (sym (lay-append copy rest (board .memory)))
-        (subst (λ (ws : List Store). Inv (record { memory = lay ws (next .memory); volatile = after }) plain) same (later .whole));
+    whole = subst (λ (after : Board). Inv after plain) (first-then board o slot block found below entries) (later .whole);
     halt = λ p. split p (leb 8 p) refl;
     unmarked = all-append copy-below (subst (All (Below (markStart g))) same (later .unmarked));
   }
     where
       next : Board
       next = sweptOnce board slot block
-
-      after : Volatile
-      after = record { cache = cacheOf board; table = hidden (record { slot = slot; block = block } ∷ entries) (tableOf board); controller = board .volatile .controller }
 
       rest : List Store
       rest = homeCopies g (board .memory) entries
@@ -225,23 +207,13 @@ swept (entry ∷ entries) board plain v ph (and-above a b c w) =
 
 pub sweep-keeps : (board : Board) (plain : Plain) → Inv board plain → (limit : ℕ) → Keeps board plain (sweep limit) (sweepPlan board limit)
 unfolding sweepPlan sweepNumber did
-sweep-keeps board plain v limit = guarded (sweepNumber board) (λ e. go (running e))
+sweep-keeps board plain v limit = guarded (sweepNumber board) (λ e. go (sweep-open board e .running))
   where
     entries : List CleanEntry
     entries = lowestClean limit (tableOf board)
 
-    running : numberOf (sweepNumber board) ≡ 0 → phaseOf board ≡ Running
-    running e =
-        let c = common-passed board false ((isWriting (phaseOf board) ⇒ No.Busy) ∷ []) e in
-        neither (phaseOf board) (c .0 .awake) (passed (isWriting (phaseOf board)) No.Busy [] (suc-ne-zero 7) (c .1) .0)
-      where
-        neither : (phase : Phase) → isOff phase ≡ false → isWriting phase ≡ false → phase ≡ Running
-        neither Running a b = refl
-        neither (Writing count) a b = absurd (false-true (sym b))
-        neither Off a b = absurd (false-true (sym a))
-
     go : phaseOf board ≡ Running
-        → Keeps board plain (sweep limit) (carry (homeCopies (sizes board) (board .memory) entries) (record { cache = cacheOf board; table = hidden entries (tableOf board); controller = board .volatile .controller }) [])
+        → Keeps board plain (sweep limit) (carry (homeCopies (sizes board) (board .memory) entries) (sweptAll board entries .volatile) [])
     go ph =
         let s = swept entries board plain v ph (lowest-waiting limit (tableOf board)) in
         k-carry refl (subst (Inv _) (sym (note-unmarked (sizes board) plain (sweep limit) 0 _ (no-mark (sizes board) (s .unmarked)))) (s .whole))

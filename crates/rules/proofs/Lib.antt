@@ -24,6 +24,9 @@ pub mod Demand3
 pub mod NoneFinished
 pub mod Demand2
 pub mod Moves
+pub mod SweepMoves
+pub mod SweepLoads
+pub mod RoomAgain
 pub mod ShortStores
 pub mod LetteredCases
 pub mod Pinned

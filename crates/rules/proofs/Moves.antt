@@ -49,7 +49,7 @@ use Rattle.rules.proofs.Answers.{guard-accepted, carry-accepted, carry-
 -- ---- FULL
 
 -- the checks 1 to 6 passed, the number of a store is that of the check for room
-store-room : (board : Board) (block offset : ℕ) (bytes : List ℕ) → numberOf (loadNumber board block offset (length bytes)) ≡ 0
+pub store-room : (board : Board) (block offset : ℕ) (bytes : List ℕ) → numberOf (loadNumber board block offset (length bytes)) ≡ 0
     → storeNumber board block offset bytes ≡ cond (full (slotFor (lookup block (tableOf board)) (lowestFree (tableOf board)))) No.Full No.Done
 unfolding loadNumber storeNumber commonChecks firstOf numberOf
 store-room board block offset bytes e =
@@ -126,7 +126,7 @@ unaccepted p board (carry ws after gives) ne = go (leb (length ws) p) ne
     go false ne = refl
 
 -- an accepted plan behind its checks, as its whole outcome
-accepted-whole : (p : ℕ) (board : Board) (n : Number) (ws : List Store) (after : Volatile) (gives : List ℕ)
+pub accepted-whole : (p : ℕ) (board : Board) (n : Number) (ws : List Store) (after : Volatile) (gives : List ℕ)
     → numberOf (settle p board (guard n (carry ws after gives)) .number) ≡ 0
     → (numberOf n ≡ 0) × (settle p board (guard n (carry ws after gives)) ≡ whole board ws after gives)
 accepted-whole p board n ws after gives e =

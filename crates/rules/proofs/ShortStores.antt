@@ -7,7 +7,6 @@ use mathlib.Core.List.{List}
 use Prim.Native.Nat.{ℕ, _+_, _≤_, _<_, min}
 use native.Mathlib.Omega.{arith}
 use lib.ListN.{length, set, take, length-take}
-use borrow.Author.Tests.{eq-eqb}
 use Rattle.words.specs.Words.{bytesTo}
 use Rattle.rules.specs.declared.Phase.{Phase}
 use Rattle.rules.specs.declared.Phase.the-variants.{Running, Writing, Off}
@@ -17,12 +16,11 @@ use Rattle.rules.specs.declared.Lookup.{Lookup}
 use Rattle.rules.specs.declared.Lookup.the-variants.{Entry, Nothing}
 use Rattle.rules.specs.declared.Place.{Place}
 use Rattle.rules.specs.declared.Window.{Window}
-use Rattle.rules.specs.declared.Number.{Number}
 use Rattle.rules.specs.Geometry.{homeBlock, checkpointBlock}
 use Rattle.rules.specs.TableWords.{wordOf, lookup, lowestFree}
 use Rattle.rules.specs.Board.{Board, sizes, phaseOf, tableOf}
 use Rattle.rules.specs.Numbers.{numberOf}
-use Rattle.rules.specs.Power.{Plan, guard, settle, stored}
+use Rattle.rules.specs.Power.{Plan, settle, stored}
 use Rattle.rules.specs.Loads.{Spot, inMemory, inCache, spotIn, shows, spotOf, seen}
 use Rattle.rules.specs.Stores.{replaced, Move, to, stores, moveIn, slotFor, full, storeNumber, all, touched, dirtyOrHidden, isShort, windowFor, windowTo, layAt, moved, movedTo, storeBy, storePlan}
 use Rattle.rules.specs.Calls.{store, plan, call}
@@ -30,12 +28,8 @@ use Rattle.rules.specs.Promises.{Touches, ShortList, DirtyOrHidden, is-d
 use Rattle.rules.proofs.Clashes.{false-true}
 use Rattle.rules.proofs.Checked.{InRange}
 use Rattle.rules.proofs.LaidAt.{all-whole}
+use Rattle.rules.proofs.Answers.{past-guard}
 use Rattle.rules.proofs.Moves.{laid-board, store-checked, store-stored}
-
--- checks passed, a plan behind them is the plan
-past-guard : (n : Number) (q : Plan) → numberOf n ≡ 0 → guard n q ≡ q
-unfolding guard
-past-guard n q e = rw (eq-eqb (numberOf n) 0 e)
 
 -- the words of the range, by the quotients of its ends
 touched-exactly : (offset len k : ℕ) → len ≢ 0

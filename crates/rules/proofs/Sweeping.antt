@@ -1,43 +1,41 @@
 -- The entries of a sweep, each as a store of its block's unchanged bytes.
-use mathlib.Core.Path.{_≡_, refl, sym, ap, _∙_, subst}
-use mathlib.Core.Logic.{_≢_}
-use mathlib.Core.Bool.{Bool, true, false, _||_, not}
+use mathlib.Core.Path.{_≡_, refl, sym, ap, _∙_}
+use mathlib.Core.Bool.{true, false, cond}
 use mathlib.Core.List.{List, [], _∷_, _++_, append-nil}
-use mathlib.Core.Option.{some}
-use Prim.Native.Nat.{ℕ, zero, suc, _+_, _*_, _-_, _≤_, _<_}
+use Prim.Native.Nat.{ℕ, zero, suc, _+_, _*_, _≤_, _<_}
 use native.Mathlib.Omega.{arith}
-use native.Mathlib.Nat.{suc-ne-zero, zero-add}
-use lib.Dec.{ltb}
+use native.Mathlib.Nat.{suc-ne-zero}
+use native.Mathlib.Decide.{ℕ-discrete}
+use lib.Dec.{eqb}
 use lib.ListN.{length, take, drop, getD, set, length-set, drop-of-length-le}
-use lib.Seq.{getD-set-other, drop-nil}
-use borrow.Author.Tests.{ltb-true, ne-eqb, lt-leb, le-ltb, not-false}
+use lib.Seq.{getD-set-other}
+use borrow.Author.Tests.{eq-eqb, ne-eqb}
 use Rattle.words.specs.Words.{blockAt, Store, lay, bytesTo}
 use Rattle.words.proofs.All.{All}
-use Rattle.words.proofs.Blocks.{block-laid-other, length-block}
-use Rattle.rules.specs.declared.Geometry.{Geometry}
+use Rattle.words.proofs.Lists.{lay-append}
+use Rattle.words.proofs.Makers.{Laid}
+use Rattle.words.proofs.Blocks.{block-stores, block-laid-other}
 use Rattle.rules.specs.declared.Phase.{Phase}
 use Rattle.rules.specs.declared.Phase.the-variants.{Running, Writing, Off}
-use Rattle.rules.specs.declared.State.{State}
 use Rattle.rules.specs.declared.State.the-variants.{Clean, Dirty, Hidden, PreHidden, PreDirty}
 use Rattle.rules.specs.declared.Lookup.{Lookup}
 use Rattle.rules.specs.declared.Lookup.the-variants.{Entry}
 use Rattle.rules.specs.declared.Number.{Number}
 use Rattle.rules.specs.declared.Number.the-variants as No
 use Rattle.rules.specs.Geometry.{homeBlock, checkpointBlock}
-use Rattle.rules.specs.TableWords.{wordOf, Says, free, names, neither, says, lookup, lowestFree, every}
+use Rattle.rules.specs.TableWords.{wordOf, Says, free, names, neither, says, lookup, lowestFree}
 use Rattle.rules.specs.Board.{Board, sizes, phaseOf, cacheOf, tableOf}
-use Rattle.rules.specs.Numbers.{numberOf, _⇒_, firstOf, allows, wellSaid, wellFormed, malformed, commonChecks, outOfRange, inexact, isOff}
+use Rattle.rules.specs.Numbers.{numberOf, _⇒_, firstOf, allows, wellFormed, commonChecks, inexact, isOff, isWriting}
 use Rattle.rules.specs.Power.{Plan, carry, guard}
-use Rattle.rules.specs.Loads.{spotOf, spotIn, shows, blockIn, visible, seen}
-use Rattle.rules.specs.Stores.{replaced, to, stores, moveIn, slotFor, full, storeNumber, all, isShort, windowFor, windowTo, layAt, moved, movedTo, storeBy, storePlan}
-use Rattle.rules.specs.Sweeps.{CleanEntry, cleanBy, cleanFrom, lowestClean, homeCopies, hidden}
-use Rattle.rules.proofs.Clashes.{and-left, or-false}
-use Rattle.rules.proofs.TableWordLaws.{says-word}
+use Rattle.rules.specs.Loads.{spotOf, spotIn, blockIn, visible, seen}
+use Rattle.rules.specs.Stores.{replaced, stores, moveIn, slotFor, full, storeNumber, isShort, windowFor, layAt, moved, movedTo, storeBy, storePlan}
+use Rattle.rules.specs.Sweeps.{CleanEntry, cleanBy, cleanFrom, lowestClean, homeCopies, hidden, sweepNumber}
+use Rattle.rules.specs.PlainMachine.{update}
+use Rattle.rules.proofs.Clashes.{false-true, or-false}
 use Rattle.rules.proofs.Finding.{Finds, finds-lookup}
-use Rattle.rules.proofs.Apart.{Apart, apart-finds, apart-same}
-use Rattle.rules.proofs.Changing.{every-all, all-every, all-get, all-set}
-use Rattle.rules.proofs.Checked.{Common, Lent, exact-lent, lent-exact}
-use Rattle.rules.proofs.KeepsStore.{seen-length, word-formed}
+use Rattle.rules.proofs.Changing.{all-get}
+use Rattle.rules.proofs.Checked.{passed, Common, common-passed, common-formed, formed-names, Lent, exact-lent}
+use Rattle.rules.proofs.KeepsStore.{seen-length}
 use Rattle.rules.proofs.LiveShown.{in-range-false}
 use Rattle.rules.proofs.Windows.{window-all}
 
@@ -115,24 +113,28 @@ pub record Open (board : Board) : Type 0 where
   pub common : Common board false
   pub running : phaseOf board ≡ Running
 
+-- the checks of a sweep, passed
+pub sweep-open : (board : Board) → numberOf (sweepNumber board) ≡ 0 → Open board
+unfolding sweepNumber numberOf
+sweep-open board e =
+    let c = common-passed board false ((isWriting (phaseOf board) ⇒ No.Busy) ∷ []) e in
+    record { common = c .0; running = only (phaseOf board) (c .0 .awake) (passed (isWriting (phaseOf board)) No.Busy [] (suc-ne-zero 7) (c .1) .0) }
+  where
+    only : (phase : Phase) → isOff phase ≡ false → isWriting phase ≡ false → phase ≡ Running
+    only Running a b = refl
+    only (Writing count) a b = absurd (false-true (sym b))
+    only Off a b = absurd (false-true (sym a))
+
 pub open-lent : {board : Board} → Open board → Lent (sizes board) board
 open-lent {board} o = exact-lent (sizes board) board (or-false (inexact (sizes board) board) false (o .common .exact) .0)
 
 pub open-formed : {board : Board} → Open board → All (λ w. wellFormed (allows Running) (sizes board) w ≡ true) (tableOf board)
-unfolding malformed
-open-formed {board} o =
-    every-all (wellFormed (allows Running) (sizes board)) (tableOf board)
-    (subst (λ (phase : Phase). every (wellFormed (allows phase) (sizes board)) (tableOf board) ≡ true) (o .running) (not-false _ (o .common .formed)))
-
-formed-block : (g : Geometry) (word block : ℕ) (state : State) → wellFormed (allows Running) g word ≡ true → says word ≡ names block state → block < g .blocks
-unfolding wellFormed wellSaid
-formed-block g word block state f e =
-    ltb-true block (g .blocks) (and-left (ltb block (g .blocks)) (allows Running state) (sym (ap (wellSaid (allows Running) g) e) ∙ f))
+open-formed o = common-formed (o .common) Running (o .running)
 
 -- the block that a clean entry names is one of the board's
 pub swept-block : {board : Board} → Open board → (slot block : ℕ) → slot < length (tableOf board) → says (getD (tableOf board) slot 0) ≡ names block Clean
     → block < sizes board .blocks
-swept-block {board} o slot block h e = formed-block (sizes board) (getD (tableOf board) slot 0) block Clean (all-get slot (open-formed o) h) e
+swept-block {board} o slot block h e = formed-names (allows Running) (sizes board) (getD (tableOf board) slot 0) block Clean (all-get slot (open-formed o) h) e .0
 
 -- ---- one entry
 
@@ -142,6 +144,22 @@ sweptOnce board slot block = record {
   memory = lay (bytesTo (8 * homeBlock (sizes board) block) 8 (blockAt (board .memory) (checkpointBlock (sizes board) slot))) (board .memory);
   volatile = record { cache = cacheOf board; table = set (tableOf board) slot (wordOf block Hidden); controller = board .volatile .controller };
 }
+
+-- the board after these entries are swept
+abbrev pub sweptAll : Board → List CleanEntry → Board
+sweptAll board entries = record {
+  memory = lay (homeCopies (sizes board) (board .memory) entries) (board .memory);
+  volatile = record { cache = cacheOf board; table = hidden entries (tableOf board); controller = board .volatile .controller };
+}
+
+-- what stands for a block laid over it changes none
+pub update-itself : (live : ℕ → List ℕ) (block : ℕ) (bytes : List ℕ) → bytes ≡ live block → (k : ℕ) → update live block bytes k ≡ live k
+unfolding update
+update-itself live block bytes e k = go (ℕ-discrete k block)
+  where
+    go : Dec (k ≡ block) → cond (eqb k block) bytes (live k) ≡ live k
+    go (yes q) = rw (eq-eqb k block q) (e ∙ ap live (sym q))
+    go (no ne) = rw (ne-eqb k block ne)
 
 itself : (block : List ℕ) → replaced block 0 block ≡ block
 unfolding replaced
@@ -154,6 +172,15 @@ module _ (board : Board) (o : Open board) (slot block : ℕ) (found : Finds bloc
 
   pub whole-block : length (seen board block) ≡ 64
   whole-block = seen-length board (open-lent o) block below
+
+  pub copy-whole : length (blockAt (board .memory) (checkpointBlock (sizes board) slot)) ≡ 64
+  copy-whole = sym (ap length shown) ∙ whole-block
+
+  pub home-room : 64 * homeBlock (sizes board) block + 64 ≤ length (board .memory)
+  home-room = omega (arith, below, open-lent o .memory)
+
+  pub copy-laid : Laid (8 * homeBlock (sizes board) block) 8 (length (board .memory)) (bytesTo (8 * homeBlock (sizes board) block) 8 (blockAt (board .memory) (checkpointBlock (sizes board) slot)))
+  copy-laid = block-stores block (length (board .memory)) (blockAt (board .memory) (checkpointBlock (sizes board) slot)) copy-whole home-room
 
   checks-passed : storeNumber board block 0 (seen board block) ≡ No.Done
   unfolding storeNumber commonChecks firstOf slotFor full
@@ -191,6 +218,14 @@ module _ (board : Board) (o : Open board) (slot block : ℕ) (found : Finds bloc
   reads-on (entry ∷ entries) =
       let same : blockAt (sweptOnce board slot block .memory) (checkpointBlock (sizes board) (entry .slot)) ≡ blockAt (board .memory) (checkpointBlock (sizes board) (entry .slot)) =
       block-laid-other (board .memory) (checkpointBlock (sizes board) (entry .slot)) (homeBlock (sizes board) block) (blockAt (board .memory) (checkpointBlock (sizes board) slot))
-      (sym (ap length shown) ∙ whole-block) (omega (arith, below, open-lent o .memory)) (λ e. omega (arith, below))
+      copy-whole home-room (λ e. omega (arith, below))
       in
       rw (same, reads-on entries)
+
+  -- the entry, and then the others
+  pub first-then : (entries : List CleanEntry) → sweptAll (sweptOnce board slot block) entries ≡ sweptAll board (record { slot = slot; block = block } ∷ entries)
+  unfolding homeCopies hidden
+  first-then entries =
+      let after = sweptAll board (record { slot = slot; block = block } ∷ entries) .volatile in
+      ap (λ (m : List ℕ). record { memory = m; volatile = after })
+      (ap (λ (ws : List Store). lay ws (sweptOnce board slot block .memory)) (reads-on entries) ∙ sym (lay-append _ (homeCopies (sizes board) (board .memory) entries) (board .memory)))

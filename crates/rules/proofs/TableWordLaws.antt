@@ -62,7 +62,7 @@ pub word-code : (block : ℕ) (state : State) → wordOf block state % 256 ≡ c
 unfolding wordOf
 word-code block state = omega (arith, code-low state)
 
-word-nonzero : (block : ℕ) (state : State) → wordOf block state ≢ 0
+pub word-nonzero : (block : ℕ) (state : State) → wordOf block state ≢ 0
 unfolding wordOf
 word-nonzero block state e = omega (arith, code-high state)
 
