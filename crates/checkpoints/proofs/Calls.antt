@@ -11,6 +11,7 @@ use lib.ListN.{length, take, drop, length-take, length-drop, length-map}
 use lib.Seq.{take-all}
 use borrow.Author.Tests.{eqb-true, not-false, not-true}
 use Rattle.words.specs.Words.{Store, Lays, lay}
+use Rattle.words.proofs.Laying.{take-most, relaid, laid-whole}
 use Rattle.rules.specs.declared.Phase.{Phase}
 use Rattle.rules.specs.declared.Phase.the-variants.{Running, Writing, Off}
 use Rattle.rules.specs.declared.Controller.{Controller}
@@ -26,45 +27,11 @@ use Rattle.rules.specs.Calls.{call, plan, begin, step}
 use Rattle.rules.proofs.Clashes.{false-true}
 use Rattle.checks.specs.Ready.{Ready}
 use Rattle.checks.specs.Answers.{offOf, answerOf, refusedOf}
-use Rattle.checks.proofs.Passed.{refusing, accepting, hit, miss, none-applies, stopped, common-goes-on, Passed, common-passed}
+use Rattle.checks.proofs.Passed.{by-common, by-last, by-none, Passed, common-passed}
 use Rattle.checks.proofs.Settled.{guard-on, refused-is, cut-is, whole-is}
 use Rattle.copies.specs.Records.{begunRecord}
 use Rattle.checkpoints.specs.Records.{steppedRecord}
-use Rattle.checkpoints.proofs.Lists.{length-checkpoint, take-most}
-
--- ---- the number of the common checks and one more
-
--- n is the number of the common checks, `ok` tells whether it accepts
-module _ (board : Board) (unfit applies : Bool) (last n : Number) (ok : Bool) (e : n ≡ firstOf (commonChecks board unfit)) (o : ok ≡ eqb (numberOf n) 0) where
-  abbrev numberBy : Number
-  numberBy = firstOf (commonChecks board unfit ++ (applies ⇒ last) ∷ [])
-
-  by-common : not ok ≡ true → n ≡ numberBy
-  by-common t = stopped (commonChecks board unfit) ((applies ⇒ last) ∷ []) e (refusing n o (not-true ok t))
-
-  goes-on : not ok ≡ false → numberBy ≡ firstOf ((applies ⇒ last) ∷ [])
-  goes-on t = common-goes-on board unfit ((applies ⇒ last) ∷ []) (ap numberOf (sym e) ∙ accepting n o (not-false ok t))
-
-  by-last : not ok ≡ false → applies ≡ true → last ≡ numberBy
-  by-last t q = hit [] q ∙ sym (goes-on t)
-
-  by-none : not ok ≡ false → applies ≡ false → No.Done ≡ numberBy
-  by-none t q = miss last [] q none-applies ∙ sym (goes-on t)
-
--- a list that is laid, by the length that the call knew before
-pub relaid : {p r : ℕ} {stores : List Store} {memory memory′ : List ℕ} (words : ℕ) → words ≡ length stores → Lays p stores memory memory′ r
-    → Lays p stores memory memory′ words
-relaid words e l = record { words = e; bytes = l .bytes }
-
--- a list that is laid whole
-pub laid-whole : (p words : ℕ) (stores : List Store) (memory : List ℕ) {memory′ : List ℕ} → words ≡ length stores → words ≤ p
-    → memory′ ≡ lay stores memory → Lays p stores memory memory′ words
-laid-whole p words stores memory e h q =
-    record { words = e; bytes = q ∙ ap (λ (z : List Store). lay z memory) (sym (take-all p stores (omega arith))) }
-
-pub busy-refuses : numberOf No.Busy ≢ 0
-unfolding numberOf
-busy-refuses = suc-ne-zero 7
+use Rattle.checkpoints.proofs.Lists.{length-checkpoint}
 
 pub idle-refuses : numberOf No.Idle ≢ 0
 unfolding numberOf

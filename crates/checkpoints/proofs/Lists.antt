@@ -3,10 +3,11 @@ use mathlib.Core.Path.{_≡_, refl, sym, ap, _∙_, subst}
 use mathlib.Core.List.{List, [], _∷_, _++_, map}
 use Prim.Native.Nat.{ℕ, zero, suc, _+_, _*_, _-_, _≤_, _<_, min}
 use native.Mathlib.Omega.{arith}
-use native.Mathlib.Nat.{add-zero, zero-add, min-zero, zero-min, suc-min-suc}
+use native.Mathlib.Nat.{add-zero, zero-add}
 use lib.ListN.{length, take, drop, getD, length-append, length-drop, length-take, length-map}
-use lib.Seq.{drop-drop, drop-append-add, drop-append-le, take-append-le, take-all}
+use lib.Seq.{drop-drop, drop-append-add, drop-append-le, take-append-le}
 use Rattle.words.specs.Words.{Store, Lays, lay, bytesTo, numbersTo, numberBytes, littleEndian}
+use Rattle.words.proofs.Laying.{take-least}
 use Rattle.words.proofs.All.{All, all-take, all-drop, all-append}
 use Rattle.words.proofs.Lists.{Fit}
 use Rattle.words.proofs.Makers.{bytesTo-laid, numbersTo-laid}
@@ -131,12 +132,6 @@ lays-saved place mark registers table i x {part} h k e l =
 
 -- ---- several words
 
-take-least : {A : Type 0} (p n : ℕ) (xs : List A) → take p (take n xs) ≡ take (min p n) xs
-take-least zero n xs = rw zero-min
-take-least (suc p) zero xs = rw min-zero
-take-least (suc p) (suc n) [] = rw suc-min-suc
-take-least (suc p) (suc n) (x ∷ xs) = rw suc-min-suc (ap (λ z. x ∷ z) (take-least p n xs))
-
 -- a loop that has laid as many words as the allowance leaves
 pub lays-words : (p words count done : ℕ) (stores : List Store) {part part′ : List ℕ} → count + words ≤ length stores → done ≡ min p words
     → part′ ≡ lay (take done (drop count stores)) part → Lays p (take words (drop count stores)) part part′ words
@@ -145,10 +140,6 @@ lays-words p words count done stores {part} h e q =
       words = simp (length-take, length-drop) (omega arith);
       bytes = q ∙ ap (λ (z : List Store). lay z part) (ap (λ (n : ℕ). take n (drop count stores)) e ∙ sym (take-least p words (drop count stores)));
     }
-
--- at most n words of what is left
-pub take-most : (n words : ℕ) (xs : List Store) → words ≡ min n (length xs) → take words xs ≡ take n xs
-take-most n words xs e = ap (λ (k : ℕ). take k xs) e ∙ sym (take-least n (length xs) xs) ∙ ap (take n) (take-all (length xs) xs (omega arith))
 
 -- ---- the part and the memory
 

@@ -177,10 +177,32 @@ module _ (board : Board) (unfit : Bool) (n : Number) (ok : Bool) (e : n ≡ firs
 
 -- ---- what is lent
 
--- 5 TABLE is a refusal
+-- ---- the number of the common checks and one more
+
+-- n is the number of the common checks, `ok` tells whether it accepts
+module _ (board : Board) (unfit applies : Bool) (last n : Number) (ok : Bool) (e : n ≡ firstOf (commonChecks board unfit)) (o : ok ≡ eqb (numberOf n) 0) where
+  abbrev numberBy : Number
+  numberBy = firstOf (commonChecks board unfit ++ (applies ⇒ last) ∷ [])
+
+  pub by-common : not ok ≡ true → n ≡ numberBy
+  by-common t = stopped (commonChecks board unfit) ((applies ⇒ last) ∷ []) e (refusing n o (not-true ok t))
+
+  goes-on : not ok ≡ false → numberBy ≡ firstOf ((applies ⇒ last) ∷ [])
+  goes-on t = common-goes-on board unfit ((applies ⇒ last) ∷ []) (ap numberOf (sym e) ∙ accepting n o (not-false ok t))
+
+  pub by-last : not ok ≡ false → applies ≡ true → last ≡ numberBy
+  by-last t q = hit [] q ∙ sym (goes-on t)
+
+  pub by-none : not ok ≡ false → applies ≡ false → No.Done ≡ numberBy
+  by-none t q = miss last [] q none-applies ∙ sym (goes-on t)
+
 pub table-refuses : numberOf No.Table ≢ 0
 unfolding numberOf
 table-refuses = suc-ne-zero 4
+
+pub busy-refuses : numberOf No.Busy ≢ 0
+unfolding numberOf
+busy-refuses = suc-ne-zero 7
 
 pub lengths : {board : Board} {m c : ℕ} {t : List ℕ} {g : Geometry} {phase : Phase} → Lent board m c t g phase → Lengths board m c (length t)
 lengths l = record { memory = l .memory; cache = l .cache; table = ap length (l .table) }

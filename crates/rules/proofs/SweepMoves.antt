@@ -179,7 +179,7 @@ clean-count slot (word ∷ table) = go (says word) (clean-or-not (says word)) (c
     go x (is-clean block) e = omega (arith, e)
     go x (is-not over) e = ap length (over .no-entry slot (cleanFrom (suc slot) table)) ∙ e ∙ (let none = over .uncounted in omega (arith, none))
 
-copies-count : (g : Geometry) (memory : List ℕ) (entries : List CleanEntry) → length (homeCopies g memory entries) ≡ 8 * length entries
+pub copies-count : (g : Geometry) (memory : List ℕ) (entries : List CleanEntry) → length (homeCopies g memory entries) ≡ 8 * length entries
 unfolding homeCopies bytesTo
 copies-count g memory [] = refl
 copies-count g memory (entry ∷ entries) = omega (arith, copies-count g memory entries)

@@ -26,9 +26,9 @@ use Rattle.rules.specs.TableWords.{wordOf, Says, free, names, neither, says, ev
 use Rattle.rules.specs.Numbers.{wellFormed, wellSaid, allows}
 use Rattle.rules.specs.Sweeps.{CleanEntry, cleanBy, cleanFrom, homeCopies, hidden}
 use Rattle.rules.specs.SweepPromises.{oneIfClean}
-use Rattle.rules.proofs.Clashes.{and-left}
 use Rattle.rules.proofs.TableWordLaws.{coded, code-named}
-use Rattle.rules.proofs.Changing.{every-all, all-get}
+use Rattle.rules.proofs.Checked.{formed-names}
+use Rattle.rules.proofs.SweepMoves.{PassedOver, CleanOrNot, is-clean, is-not, clean-or-not}
 use Rattle.checks.specs.Tables.{Skipped, Next}
 use Rattle.sweeps.specs.Entries.{isClean, Sweepable}
 
@@ -45,52 +45,50 @@ clean-here : (slot word : ℕ) → isClean word ≡ true → cleanBy slot (says 
 unfolding cleanBy
 clean-here slot word e = ap (λ (x : Says). cleanBy slot x []) (clean-says word e)
 
-clean-not : (slot word : ℕ) → isClean word ≡ false → cleanBy slot (says word) [] ≡ []
-unfolding cleanBy isClean
-clean-not slot word e = go (says word) refl
+-- a word without that code is one that a sweep passes over
+passed-over : (word : ℕ) → isClean word ≡ false → PassedOver (says word)
+unfolding isClean
+passed-over word e = go (says word) refl (clean-or-not (says word))
   where
-    go : (x : Says) → says word ≡ x → cleanBy slot x [] ≡ []
-    go free q = refl
-    go neither q = refl
-    go (names block Clean) q = absurd (eqb-false (word % 256) 1 e (code-named word block Clean q))
-    go (names block Dirty) q = refl
-    go (names block Hidden) q = refl
-    go (names block PreHidden) q = refl
-    go (names block PreDirty) q = refl
-
--- counted
-pub clean-counts : (slot word : ℕ) → length (cleanBy slot (says word) []) ≡ oneIfClean (says word)
-unfolding cleanBy oneIfClean
-clean-counts slot word = go (says word)
-  where
-    go : (x : Says) → length (cleanBy slot x []) ≡ oneIfClean x
-    go free = refl
-    go neither = refl
-    go (names block Clean) = refl
-    go (names block Dirty) = refl
-    go (names block Hidden) = refl
-    go (names block PreHidden) = refl
-    go (names block PreDirty) = refl
+    go : (x : Says) → says word ≡ x → CleanOrNot x → PassedOver x
+    go x q (is-clean block) = absurd (eqb-false (word % 256) 1 e (code-named word block Clean q))
+    go x q (is-not over) = over
 
 pub one-counted : (word : ℕ) → word % 256 ≡ 1 → 1 ≡ oneIfClean (says word)
-unfolding isClean
-one-counted word e = sym (ap length (clean-here 0 word (eq-eqb (word % 256) 1 e))) ∙ clean-counts 0 word
+unfolding oneIfClean
+one-counted word e = sym (ap oneIfClean (coded word Clean e))
 
 pub none-counted : (word : ℕ) → word % 256 ≢ 1 → 0 ≡ oneIfClean (says word)
 unfolding isClean
-none-counted word ne = sym (ap length (clean-not 0 word (ne-eqb (word % 256) 1 ne))) ∙ clean-counts 0 word
+none-counted word ne = sym (passed-over word (ne-eqb (word % 256) 1 ne) .uncounted)
 
 -- ---- the list, slot by slot
 
 by-front : (slot : ℕ) (x : Says) (above : List CleanEntry) → cleanBy slot x above ≡ cleanBy slot x [] ++ above
 unfolding cleanBy
-by-front slot free above = refl
-by-front slot neither above = refl
-by-front slot (names block Clean) above = refl
-by-front slot (names block Dirty) above = refl
-by-front slot (names block Hidden) above = refl
-by-front slot (names block PreHidden) above = refl
-by-front slot (names block PreDirty) above = refl
+by-front slot x above = go x (clean-or-not x)
+  where
+    go : (x : Says) → CleanOrNot x → cleanBy slot x above ≡ cleanBy slot x [] ++ above
+    go x (is-clean block) = refl
+    go x (is-not over) = over .no-entry slot above ∙ ap (λ (z : List CleanEntry). z ++ above) (sym (over .no-entry slot []))
+
+by-counts : (slot : ℕ) (x : Says) → length (cleanBy slot x []) ≡ oneIfClean x
+unfolding cleanBy oneIfClean
+by-counts slot x = go x (clean-or-not x)
+  where
+    go : (x : Says) → CleanOrNot x → length (cleanBy slot x []) ≡ oneIfClean x
+    go x (is-clean block) = refl
+    go x (is-not over) = ap length (over .no-entry slot []) ∙ sym (over .uncounted)
+
+-- no more than there are slots
+pub few-entries : (slot : ℕ) (table : List ℕ) → length (cleanFrom slot table) ≤ length table
+unfolding cleanFrom cleanBy
+few-entries slot [] = omega arith
+few-entries slot (word ∷ table) = go (says word) (clean-or-not (says word)) (few-entries (suc slot) table)
+  where
+    go : (x : Says) → CleanOrNot x → length (cleanFrom (suc slot) table) ≤ length table → length (cleanBy slot x (cleanFrom (suc slot) table)) ≤ suc (length table)
+    go x (is-clean block) h = omega (arith, h)
+    go x (is-not over) h = omega (arith, h, ap length (over .no-entry slot (cleanFrom (suc slot) table)))
 
 -- those of a table in two parts
 clean-parts : (slot : ℕ) (front back : List ℕ) → cleanFrom slot (front ++ back) ≡ cleanFrom slot front ++ cleanFrom (slot + length front) back
@@ -121,7 +119,7 @@ module _ (table : List ℕ) where
   pub met-counts : (slot : ℕ) {found here : ℕ} → slot < length table → found ≡ length (met slot) → here ≡ oneIfClean (says (getD table slot 0))
       → found + here ≡ length (met (slot + 1))
   met-counts slot h e f =
-      rw (e, f, met-more slot h, length-append) (ap (λ (k : ℕ). length (met slot) + k) (sym (clean-counts slot (getD table slot 0))))
+      rw (e, f, met-more slot h, length-append) (ap (λ (k : ℕ). length (met slot) + k) (sym (by-counts slot (says (getD table slot 0)))))
 
   -- words that aren't clean add none
   met-skip : (start count : ℕ) → start + count ≤ length table → Skipped isClean table start (start + count) → met (start + count) ≡ met start
@@ -130,7 +128,7 @@ module _ (table : List ℕ) where
       let e : start + suc count ≡ (start + count) + 1 = omega arith in
       ap met e
       ∙ met-more (start + count) (omega arith)
-      ∙ ap (λ (z : List CleanEntry). met (start + count) ++ z) (clean-not (start + count) (getD table (start + count) 0) (s (start + count) (omega arith) (omega arith)))
+      ∙ ap (λ (z : List CleanEntry). met (start + count) ++ z) (passed-over (getD table (start + count) 0) (s (start + count) (omega arith) (omega arith)) .no-entry (start + count) [])
       ∙ append-nil (met (start + count))
       ∙ met-skip start count (omega arith) (λ i a b. s i a (omega arith))
 
@@ -188,25 +186,16 @@ pub record Within (g : Geometry) (high : ℕ) (entry : CleanEntry) : Type 0 wher
   pub block : entry .block < g .blocks
   pub slot : entry .slot < high
 
-pub word-block : (g : Geometry) (word block : ℕ) (state : State) → wellFormed (allows Running) g word ≡ true → says word ≡ names block state → block < g .blocks
-unfolding wellFormed wellSaid
-word-block g word block state f e =
-    ltb-true block (g .blocks) (and-left (ltb block (g .blocks)) (allows Running state) (sym (ap (wellSaid (allows Running) g) e) ∙ f))
-
 pub clean-within : (g : Geometry) (high slot : ℕ) {table : List ℕ} → All (λ w. wellFormed (allows Running) g w ≡ true) table → slot + length table ≤ high
     → All (Within g high) (cleanFrom slot table)
 unfolding cleanFrom cleanBy
 clean-within g high slot done h = done
-clean-within g high slot (also {x = word} {xs = table} f fs) h = go (says word) refl (clean-within g high (suc slot) fs (omega arith))
+clean-within g high slot (also {x = word} {xs = table} f fs) h = go (says word) refl (clean-or-not (says word)) (clean-within g high (suc slot) fs (omega arith))
   where
-    go : (x : Says) → says word ≡ x → All (Within g high) (cleanFrom (suc slot) table) → All (Within g high) (cleanBy slot x (cleanFrom (suc slot) table))
-    go free q above = above
-    go neither q above = above
-    go (names block Clean) q above = also {x = record { slot = slot; block = block }} (record { block = word-block g word block Clean f q; slot = omega arith }) above
-    go (names block Dirty) q above = above
-    go (names block Hidden) q above = above
-    go (names block PreHidden) q above = above
-    go (names block PreDirty) q above = above
+    go : (x : Says) → says word ≡ x → CleanOrNot x → All (Within g high) (cleanFrom (suc slot) table) → All (Within g high) (cleanBy slot x (cleanFrom (suc slot) table))
+    go x q (is-clean block) above =
+        also {x = record { slot = slot; block = block }} (record { block = formed-names (allows Running) g word block Clean f q .0; slot = omega arith }) above
+    go x q (is-not over) above = subst (All (Within g high)) (sym (over .no-entry slot (cleanFrom (suc slot) table))) above
 
 module _ (g : Geometry) (memory : List ℕ) (m : length memory ≡ 8 * memoryWords g) (high : ℕ) (low : high ≤ g .slots) where
   -- the stores of an entry fit, and lie in HOME

@@ -1,2 +1,4 @@
 pub mod Entries
 pub mod Walks
+pub mod Calls
+pub mod Unique

@@ -16,10 +16,11 @@ use Rattle.rules.specs.Geometry.{homeBlock, checkpointBlock}
 use Rattle.rules.specs.TableWords.{wordOf}
 use Rattle.rules.specs.Numbers.{wellFormed, allows}
 use Rattle.rules.specs.Sweeps.{CleanEntry, cleanFrom, homeCopies, hidden}
+use Rattle.rules.proofs.Checked.{formed-names}
 use Rattle.rules.proofs.Changing.{every-all, all-get}
 use Rattle.checks.specs.Tables.{Next}
 use Rattle.sweeps.specs.Entries.{isClean, Sweepable}
-use Rattle.sweeps.proofs.Entries.{clean-says, entryAt, met, met-here, met-goes-on, met-lowest, Within, word-block, clean-within, laid-more, hidden-last, hidden-above, hidden-word}
+use Rattle.sweeps.proofs.Entries.{clean-says, entryAt, met, met-here, met-goes-on, met-lowest, Within, clean-within, laid-more, hidden-last, hidden-above, hidden-word}
 
 -- the entries below a slot are met, and their copies laid under an allowance
 pub record Walked (g : Geometry) (memory table : List ℕ) (p entries : ℕ) (memory′ : List ℕ) (slot done : ℕ) : Type 0 where
@@ -59,8 +60,8 @@ module _ (g : Geometry) (memory table : List ℕ) (s : Sweepable g memory table)
 
     pub walk-block : getD table slot 0 / 256 < g .blocks
     walk-block =
-        word-block g (getD table slot 0) (getD table slot 0 / 256) Clean (all-get slot (every-all (wellFormed (allows Running) g) table (s .formed)) walk-finds)
-        (clean-says (getD table slot 0) (n .here walk-finds))
+        formed-names (allows Running) g (getD table slot 0) (getD table slot 0 / 256) Clean
+        (all-get slot (every-all (wellFormed (allows Running) g) table (s .formed)) walk-finds) (clean-says (getD table slot 0) (n .here walk-finds)) .0
 
     pub walk-more : (left : ℕ) {memory″ : List ℕ} {r : ℕ} → left ≡ p - 8 * done → length memory″ ≡ length memory′
         → Lays left (bytesTo (8 * homeBlock g (getD table slot 0 / 256)) 8 (blockAt memory′ (checkpointBlock g slot))) memory′ memory″ r

@@ -3,16 +3,26 @@ use mathlib.Core.Path.{_≡_, refl, sym, ap, _∙_}
 use mathlib.Core.List.{List, [], _∷_, _++_, append-assoc, append-nil}
 use Prim.Native.Nat.{ℕ, zero, suc, _+_, _*_, _-_, _≤_, _<_, min}
 use native.Mathlib.Omega.{arith}
-use native.Mathlib.Nat.{zero-add, zero-sub, sub-zero, suc-sub-suc}
+use native.Mathlib.Nat.{zero-add, zero-sub, sub-zero, suc-sub-suc, min-zero, zero-min, suc-min-suc}
 use native.Mathlib.Numerals.{add-one, towards-suc}
 use lib.ListN.{length, getD, set, take, drop, replicate, length-append, length-drop, length-replicate, getD-replicate}
-use lib.Seq.{take-add, take-at, take-nil, drop-drop, drop-append-add, drop-cons, drop-length, length-take-le, getD-drop, paste, paste-zero, paste-suc}
+use lib.Seq.{take-all, take-add, take-at, take-nil, drop-drop, drop-append-add, drop-cons, drop-length, length-take-le, getD-drop, paste, paste-zero, paste-suc}
 use Rattle.words.specs.Words.{put, Store, lay, bytesTo, fillTo, numbersTo, numberBytes, littleEndian, Lays}
 use Rattle.words.proofs.Puts.{length-put, length-front}
 use Rattle.words.proofs.Lists.{lay-append}
 use Rattle.words.proofs.Makers.{take-bytesTo, bytesTo-laid}
 
 -- ---- one list after another
+
+pub take-least : {A : Type 0} (p n : ℕ) (xs : List A) → take p (take n xs) ≡ take (min p n) xs
+take-least zero n xs = rw zero-min
+take-least (suc p) zero xs = rw min-zero
+take-least (suc p) (suc n) [] = rw suc-min-suc
+take-least (suc p) (suc n) (x ∷ xs) = rw suc-min-suc (ap (λ z. x ∷ z) (take-least p n xs))
+
+-- at most n of a list, by how many these are
+pub take-most : {A : Type 0} (n count : ℕ) (xs : List A) → count ≡ min n (length xs) → take count xs ≡ take n xs
+take-most n count xs e = ap (λ (k : ℕ). take k xs) e ∙ sym (take-least n (length xs) xs) ∙ ap (take n) (take-all (length xs) xs (omega arith))
 
 pub take-both : {A : Type 0} (p : ℕ) (xs ys : List A) → take p (xs ++ ys) ≡ take p xs ++ take (p - length xs) ys
 take-both zero xs ys = rw (zero-sub (length xs))
@@ -33,6 +43,17 @@ lays-then {p} {xs} {ys} {memory} {memory′} {memory″} {r} {k} a b =
 pub lays-nothing : (p : ℕ) (memory : List ℕ) → Lays p [] memory memory 0
 unfolding lay
 lays-nothing p memory = record { words = refl; bytes = ap (λ (stores : List Store). lay stores memory) (sym (take-nil p)) }
+
+-- by the length that was known before
+pub relaid : {p r : ℕ} {stores : List Store} {memory memory′ : List ℕ} (words : ℕ) → words ≡ length stores → Lays p stores memory memory′ r
+    → Lays p stores memory memory′ words
+relaid words e l = record { words = e; bytes = l .bytes }
+
+-- laid whole
+pub laid-whole : (p words : ℕ) (stores : List Store) (memory : List ℕ) {memory′ : List ℕ} → words ≡ length stores → words ≤ p
+    → memory′ ≡ lay stores memory → Lays p stores memory memory′ words
+laid-whole p words stores memory e h q =
+    record { words = e; bytes = q ∙ ap (λ (z : List Store). lay z memory) (sym (take-all p stores (omega arith))) }
 
 -- the list from c on, one word further
 pub one-more : (stores : List Store) (c j : ℕ) (memory : List ℕ)

@@ -1,8 +1,8 @@
 use denote.Ref.{now}
 use borrow.Author.Tests.{not-true, not-false}
 use Rattle.rules.specs.declared.Number.the-variants as No
-use Rattle.checks.proofs.Passed.{refusing, accepting}
-use Rattle.checkpoints.proofs.Calls.{begin-stops, begin-busy, begin-accepted, begin-known, busy-refuses, begin-refused, begin-cut, begin-whole}
+use Rattle.checks.proofs.Passed.{refusing, accepting, busy-refuses}
+use Rattle.checkpoints.proofs.Calls.{begin-stops, begin-busy, begin-accepted, begin-known, begin-refused, begin-cut, begin-whole}
 use borrow.Author.Needs.{needs}
 use Rattle.checkpoints.proofs.begin.Statement.{statement}
 use Rattle.checkpoints.proofs.begin.Tie as tie
