@@ -1,4 +1,4 @@
-// The board's calls with the controller record lent: each finds it and leaves it updated (document 02, No. 4).
+// The board's calls with the controller record lent: each finds it and leaves it updated (document 02, No. 4 and No. 7).
 ghost use mathlib.Core.Path.{_≡_};
 ghost use Prim.Native.Nat.{ℕ};
 ghost use Rattle.rules.specs.Board.{boardOf};
@@ -107,6 +107,21 @@ pub fn step(
     ensures { λ r. ⌜ C.call p (boardOf (now (memory .entry)) (now (cache .entry)) (now (table .entry)) (now (controller .entry))) (C.step most) ≡ outcomeOf (answered r (now (controller .exit))) (now (memory .exit)) (now (cache .entry)) (now (table .entry)) ⌝ }
 {
     let answer = board::step(memory, cache, table, *controller, most, p);
+    *controller = record_in(answer);
+    reply_in(answer)
+}
+
+pub fn sweep(
+    memory: &mut [u8],
+    cache: &[u8],
+    table: &mut [u64],
+    controller: &mut Controller,
+    limit: usize,
+    p: usize,
+) -> Reply
+    ensures { λ r. ⌜ C.call p (boardOf (now (memory .entry)) (now (cache .entry)) (now (table .entry)) (now (controller .entry))) (C.sweep limit) ≡ outcomeOf (answered r (now (controller .exit))) (now (memory .exit)) (now (cache .entry)) (now (table .exit)) ⌝ }
+{
+    let answer = board::sweep(memory, cache, table, *controller, limit, p);
     *controller = record_in(answer);
     reply_in(answer)
 }
