@@ -63,13 +63,13 @@ pub fn sweep_slots(memory: &mut [u8], table: &mut [u64], g: Geometry, entries: u
     ensures { λ _. ⌜ (now (memory .exit) ≡ lay (homeCopies g (now (memory .entry)) (take entries (cleanFrom 0 (now (table .entry))))) (now (memory .entry))) × (now (table .exit) ≡ hidden (take entries (cleanFrom 0 (now (table .entry)))) (now (table .entry))) ⌝ }
 {
     let mut slot = 0;
-    let mut done = 0;
-    while done < entries {
+    let mut swept = 0;
+    while swept < entries {
         slot = next_clean(table, slot);
         let word = table[slot];
         copy_home(memory, g, slot, word, Geometry::BLOCK_WORDS);
         table[slot] = word + 2;
         slot += 1;
-        done += 1;
+        swept += 1;
     }
 }

@@ -16,10 +16,10 @@ use Rattle.sweeps.proofs.slots.sweep_slots.Statement.{statement}
 use Rattle.sweeps.proofs.slots.sweep_slots.Tie as tie
 
 abbrev Inv-loop : tie.InvT-loop
-Inv-loop memory₀ table₀ g entries slot₀ done₀ memory table slot done = Walked g memory₀ table₀ (8 * entries) entries memory slot done × (length table ≡ length table₀) × (table ≡ hidden (met table₀ slot) table₀)
+Inv-loop memory₀ table₀ g entries slot₀ swept₀ memory table slot swept = Walked g memory₀ table₀ (8 * entries) entries memory slot swept × (length table ≡ length table₀) × (table ≡ hidden (met table₀ slot) table₀)
 
 abbrev μ-loop : tie.MeasureT-loop
-μ-loop memory₀ table₀ g entries slot₀ done₀ memory table slot done = entries - done
+μ-loop memory₀ table₀ g entries slot₀ swept₀ memory table slot swept = entries - swept
 
 -- src/slots.rt:67:5
 loop-holds : tie.Need-loop-holds Inv-loop μ-loop
@@ -86,8 +86,8 @@ add-slot : tie.Need-add-slot Inv-loop μ-loop
 add-slot c = search needs
 
 -- src/slots.rt:73:9
-add-done : tie.Need-add-done Inv-loop μ-loop
-add-done c = search needs
+add-swept : tie.Need-add-swept Inv-loop μ-loop
+add-swept c = search needs
 
 -- src/slots.rt:67:5
 loop-less : tie.Need-loop-less Inv-loop μ-loop
@@ -102,7 +102,7 @@ loop-again c =
     let n = next-still (a .g) (now (a .memory)) (now (a .table)) (q .0) (8 * a .entries) (a .entries) (q .1) (v .0 .within) (v .1) (v .2) (c .before .before .before .before .before .next-clean .ensures) in
     let word = word-still (a .g) (now (a .memory)) (now (a .table)) (q .0) (8 * a .entries) (a .entries) (q .1) (v .0 .within) (v .1) (v .2) (c .before .before .before .before .before .next-clean .result) (n .after) in
     let e = c .before .before .copy-home .ensures in (
-      walk-more (a .g) (now (a .memory)) (now (a .table)) (q .0) (8 * a .entries) (a .entries) (q .1) (v .0) (c .before .before .before .before .before .before .before .loop-test .taken) n (8 * a .entries - 8 * c .before .before .before .before .before .before .before .before .loop .done) refl (c .before .before .copy-home .kept .0) (block-enough _ _ _ (omega (arith, c .before .before .before .before .before .before .before .loop-test .taken)) (rw word at e)),
+      walk-more (a .g) (now (a .memory)) (now (a .table)) (q .0) (8 * a .entries) (a .entries) (q .1) (v .0) (c .before .before .before .before .before .before .before .loop-test .taken) n (8 * a .entries - 8 * c .before .before .before .before .before .before .before .before .loop .swept) refl (c .before .before .copy-home .kept .0) (block-enough _ _ _ (omega (arith, c .before .before .before .before .before .before .before .loop-test .taken)) (rw word at e)),
       simp length-set (v .1),
       hidden-more (a .g) (now (a .memory)) (now (a .table)) (q .0) (8 * a .entries) (a .entries) (q .1) (v .0) (c .before .before .before .before .before .before .before .loop-test .taken) n _ word (v .2),
     )
@@ -139,7 +139,7 @@ sweep-slots-spec =
     mul-table
     slice-write-table
     add-slot
-    add-done
+    add-swept
     loop-less
     loop-again
     same-length
