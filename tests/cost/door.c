@@ -80,6 +80,13 @@ struct answer board_store(const struct lent *lent, struct record *record, size_t
     return decoded(record, CALL(rostimely_store(LENT, block, offset, from, length, p)));
 }
 
+// The door has no sweep, and tests/cost/measure asks it for none.
+struct answer board_sweep(const struct lent *lent, struct record *record, size_t limit, size_t p)
+{
+    (void)lent, (void)record, (void)limit, (void)p;
+    return (struct answer){NUMBER_DONE, 0};
+}
+
 struct answer board_begin(const struct lent *lent, struct record *record, const uint8_t *registers, size_t length, size_t p)
 {
     (void)lent, (void)registers, (void)length, (void)p;

@@ -3,7 +3,7 @@
 
 enum { TRIAL_BYTES = 14 };
 
-enum call { LOAD = 1, STORE = 2, BEGIN = 3, STEP = 4, WHOLE_CHECKPOINT = 5, FORMAT = 6, RECOVERY = 7 };
+enum call { LOAD = 1, STORE = 2, BEGIN = 3, STEP = 4, WHOLE_CHECKPOINT = 5, FORMAT = 6, RECOVERY = 7, SWEEP = 8 };
 
 // A case of the program cost: the call, the board it meets and how often it is made.
 struct trial {
@@ -92,6 +92,8 @@ static struct answer make_call(const struct lent *lent, struct record *record, c
         return board_format(lent, record, record->sizes, 0, p);
     case RECOVERY:
         return board_recover(lent, record, record->sizes).answer;
+    case SWEEP:
+        return board_sweep(lent, record, MAX_SLOTS, p);
     default:
         return (struct answer){NUMBER_DONE, 0};
     }

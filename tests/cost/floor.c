@@ -35,6 +35,21 @@ struct answer board_store(const struct lent *lent, struct record *record, size_t
     return nothing();
 }
 
+struct answer board_sweep(const struct lent *lent, struct record *record, size_t limit, size_t p)
+{
+    (void)limit, (void)p;
+    uint64_t *table = lent->table;
+    const uint8_t *checkpoint = lent->memory + WORD * checkpoint_start(record->sizes);
+    size_t slots = record->sizes.slots;
+    for (size_t slot = 0; slot < slots; slot++) {
+        if (table[slot] % 256 != CLEAN)
+            continue;
+        memcpy(lent->memory + BLOCK * (table[slot] / 256), checkpoint + BLOCK * slot, BLOCK);
+        table[slot] += HIDDEN - CLEAN;
+    }
+    return nothing();
+}
+
 struct answer board_begin(const struct lent *lent, struct record *record, const uint8_t *registers, size_t length, size_t p)
 {
     (void)length, (void)p;

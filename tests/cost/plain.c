@@ -256,6 +256,35 @@ struct answer board_store(const struct lent *lent, struct record *record, size_t
     return done(p - left);
 }
 
+struct answer board_sweep(const struct lent *lent, struct record *record, size_t limit, size_t p)
+{
+    enum number number = check(lent, record, BLOCK);
+    if (number != NUMBER_DONE)
+        return refused(number);
+    if (record->phase == PHASE_WRITING)
+        return refused(NUMBER_BUSY);
+    struct sizes sizes = record->sizes;
+    uint64_t *table = lent->table;
+    uint8_t *home = lent->memory;
+    const uint8_t *checkpoint = lent->memory + WORD * checkpoint_start(sizes);
+
+    size_t left = p;
+    size_t swept = 0;
+    size_t end = 0;
+    for (; end < sizes.slots && swept < limit; end++) {
+        if (state_of(table[end]) != CLEAN)
+            continue;
+        if (!lay_bytes(home + BLOCK * block_of(table[end]), checkpoint + BLOCK * end, BLOCK_WORDS, &left))
+            return cut(record, p);
+        swept++;
+    }
+    // only now, as a cut leaves the table as it was
+    for (size_t slot = 0; slot < end; slot++)
+        if (state_of(table[slot]) == CLEAN)
+            table[slot] = entry(block_of(table[slot]), HIDDEN);
+    return done(p - left);
+}
+
 // A table word as begin leaves it.
 static inline uint64_t begun(uint64_t word)
 {

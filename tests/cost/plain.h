@@ -113,6 +113,7 @@ enum number board_load(const struct lent *lent, const struct record *record, siz
                        size_t length);
 struct answer board_store(const struct lent *lent, struct record *record, size_t block, size_t offset, const uint8_t *bytes,
                           size_t length, size_t p);
+struct answer board_sweep(const struct lent *lent, struct record *record, size_t limit, size_t p);
 struct answer board_begin(const struct lent *lent, struct record *record, const uint8_t *registers, size_t length, size_t p);
 struct answer board_step(const struct lent *lent, struct record *record, size_t n, size_t p);
 struct answer board_format(const struct lent *lent, struct record *record, struct sizes sizes, uint8_t fill, size_t p);

@@ -7,6 +7,7 @@ use board::load;
 use board::recover;
 use board::step;
 use board::store;
+use board::sweep;
 use case::Case;
 use checks::numbers::number_of;
 use libc::STDIN_FILENO;
@@ -80,6 +81,7 @@ fn call(
         5 => checkpoint(memory, cache, table, controller, bytes, p),
         6 => gave(format(memory, cache, table, controller, g, 0, p)),
         7 => recovered(recover(memory, cache, table, controller, g)),
+        8 => gave(sweep(memory, cache, table, controller, 512, p)),
         _ => nothing(Number::Done),
     }
 }
