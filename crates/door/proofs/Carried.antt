@@ -18,6 +18,7 @@ use Rattle.rules.specs.Power.{guard, settle, Outcome}
 use Rattle.rules.specs.Loads as L
 use Rattle.rules.specs.Stores as S
 use Rattle.rules.specs.Checkpoints as K
+use Rattle.rules.specs.Sweeps as W
 use Rattle.rules.specs.Starts as B
 use Rattle.rules.specs.Calls as C
 use Rattle.codec.specs.Encoding.{encoded}
@@ -41,7 +42,7 @@ abbrev sizes : Board → C.Call → Geometry
 sizes board x = D.sizesFor x (board .volatile .controller)
 
 geometry-refused : (p : ℕ) (board : Board) (x : C.Call) → N.outside (sizes board x) ≡ true → C.call p board x ≡ refusal No.Geometry board
-unfolding C.call C.plan settle guard D.sizesFor N.firstOf N.numberOf N.commonChecks L.loadPlan L.loadNumber L.peekPlan L.peekNumber S.storePlan S.storeBy S.storeNumber K.beginPlan K.beginNumber K.stepPlan K.stepNumber B.formatPlan B.formatNumber B.recoverPlan B.recoverNumber
+unfolding C.call C.plan settle guard D.sizesFor N.firstOf N.numberOf N.commonChecks L.loadPlan L.loadNumber L.peekPlan L.peekNumber S.storePlan S.storeBy S.storeNumber K.beginPlan K.beginNumber K.stepPlan K.stepNumber B.formatPlan B.formatNumber B.recoverPlan B.recoverNumber W.sweepPlan W.sweepNumber
 geometry-refused p board (C.load block offset len) e = rw e
 geometry-refused p board (C.peek block) e = rw e
 geometry-refused p board (C.store block offset bytes) e = rw e
@@ -49,9 +50,10 @@ geometry-refused p board (C.begin registers) e = rw e
 geometry-refused p board (C.step n) e = rw e
 geometry-refused p board (C.format g fill) e = rw e
 geometry-refused p board (C.recover g) e = rw e
+geometry-refused p board (C.sweep limit) e = rw e
 
 buffer-refused : (p : ℕ) (board : Board) (x : C.Call) → N.outside (sizes board x) ≡ false → N.inexact (sizes board x) board ≡ true → C.call p board x ≡ refusal No.Buffer board
-unfolding C.call C.plan settle guard D.sizesFor N.firstOf N.numberOf N.commonChecks L.loadPlan L.loadNumber L.peekPlan L.peekNumber S.storePlan S.storeBy S.storeNumber K.beginPlan K.beginNumber K.stepPlan K.stepNumber B.formatPlan B.formatNumber B.recoverPlan B.recoverNumber
+unfolding C.call C.plan settle guard D.sizesFor N.firstOf N.numberOf N.commonChecks L.loadPlan L.loadNumber L.peekPlan L.peekNumber S.storePlan S.storeBy S.storeNumber K.beginPlan K.beginNumber K.stepPlan K.stepNumber B.formatPlan B.formatNumber B.recoverPlan B.recoverNumber W.sweepPlan W.sweepNumber
 buffer-refused p board (C.load block offset len) o e = rw (o, e)
 buffer-refused p board (C.peek block) o e = rw (o, e)
 buffer-refused p board (C.store block offset bytes) o e = rw (o, e)
@@ -59,6 +61,7 @@ buffer-refused p board (C.begin registers) o e = rw (o, e)
 buffer-refused p board (C.step n) o e = rw (o, e)
 buffer-refused p board (C.format g fill) o e = rw (o, e)
 buffer-refused p board (C.recover g) o e = rw (o, e)
+buffer-refused p board (C.sweep limit) o e = rw (o, e)
 
 -- ---- a board's bytes
 
@@ -99,6 +102,7 @@ module _ (p : ℕ) (board : Board) (x : C.Call) (fit : Fitting board) where
   recorded (C.step n) = rw (record-back .0)
   recorded (C.format g fill) = rw (record-back .0)
   recorded (C.recover g) = rw (ninety (board .volatile .controller) (fit .controller))
+  recorded (C.sweep limit) = rw (record-back .0)
 
   abbrev sized : Geometry
   sized = D.sizesFor x (board .volatile .controller)

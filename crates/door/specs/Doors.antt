@@ -48,7 +48,7 @@ bytesOf board = lentOf (board .memory) (cacheOf board) (numberBytes (tableOf boa
 
 -- ---- what is decided before the table is read
 
--- 12 RECORD BYTES: bytes that encode no record; by recovery only a length other than 90
+-- 12 RECORD BYTES: bytes that encode no record; by recovery only a length other than 90. Peek and sweep have no door of their own
 unfoldable pub noRecord : C.Call → List ℕ → Bool
 unfolding isRecord
 noRecord (C.load block offset len) bytes = not (isRecord bytes)
@@ -58,6 +58,7 @@ noRecord (C.begin registers) bytes = not (isRecord bytes)
 noRecord (C.step n) bytes = not (isRecord bytes)
 noRecord (C.format g fill) bytes = not (isRecord bytes)
 noRecord (C.recover g) bytes = not (eqb (length bytes) 90)
+noRecord (C.sweep limit) bytes = not (isRecord bytes)
 
 -- the sizes that a call is held to: those given, else the record's
 unfoldable pub sizesFor : C.Call → Controller → Geometry
@@ -68,6 +69,7 @@ sizesFor (C.begin registers) c = c .geometry
 sizesFor (C.step n) c = c .geometry
 sizesFor (C.format g fill) c = g
 sizesFor (C.recover g) c = g
+sizesFor (C.sweep limit) c = c .geometry
 
 abbrev pub sized : ℕ → ℕ → Geometry
 sized blocks slots = record { blocks = blocks; slots = slots }
