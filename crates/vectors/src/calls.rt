@@ -58,6 +58,18 @@ fn begin(
     board::begin(memory, cache, table, controller, &space[0..len], p)
 }
 
+fn sweep(
+    memory: &mut [u8],
+    cache: &[u8],
+    table: &mut [u64],
+    controller: Controller,
+    line: &[u8],
+) -> Answer {
+    let limit = size_at(line, 1);
+    let p = size_at(line, 2);
+    board::sweep(memory, cache, table, controller, limit, p)
+}
+
 fn recover(
     memory: &[u8],
     cache: &[u8],
@@ -77,6 +89,7 @@ pub fn is_call(line: &[u8]) -> bool {
         || named(line, b"wire")
         || named(line, b"begin")
         || named(line, b"step")
+        || named(line, b"sweep")
         || named(line, b"format")
         || named(line, b"recover")
         || forms::is_call(line)
@@ -103,6 +116,9 @@ pub fn answer_to(
         let most = size_at(line, 1);
         let p = size_at(line, 2);
         return board::step(memory, cache, table, controller, most, p);
+    }
+    if named(line, b"sweep") {
+        return sweep(memory, cache, table, controller, line);
     }
     if named(line, b"format") {
         let g = sizes_in(line);
