@@ -9,12 +9,14 @@ use native.Mathlib.Omega.{arith}
 use native.Mathlib.Nat.{not-suc-le-zero}
 use lib.Dec.{eqb}
 use lib.ListN.{length, getD, take}
+use Rattle.words.specs.Words.{Store}
 use Rattle.rules.specs.declared.Phase.the-variants.{Running, Writing}
 use Rattle.rules.specs.declared.State.the-variants.{Clean, Hidden}
+use Rattle.rules.specs.declared.Number.{Number}
 use Rattle.rules.specs.TableWords.{wordOf, Says, says}
-use Rattle.rules.specs.Board.{Board, sizes, phaseOf, tableOf}
+use Rattle.rules.specs.Board.{Board, Volatile, sizes, phaseOf, tableOf}
 use Rattle.rules.specs.Numbers.{numberOf, isOff}
-use Rattle.rules.specs.Power.{Outcome}
+use Rattle.rules.specs.Power.{carry, guard, Outcome, settle}
 use Rattle.rules.specs.Loads.{loadNumber, loadPlan, peekNumber, peekPlan}
 use Rattle.rules.specs.Checkpoints.{countOf, stepNumber, nextWords, stepPlan}
 use Rattle.rules.specs.Sweeps.{sweepNumber, sweepPlan}
@@ -93,19 +95,25 @@ stays-free p slot board (sweep limit) a-sweep e f = record {
   free = swept-slots p limit board slot e .other (λ block q. word-nonzero block Clean (sym q ∙ f .free)) ∙ f .free;
 }
 
+awake-after : (p : ℕ) (board : Board) (n : Number) (ws : List Store) (after : Volatile) (gives : List ℕ)
+    → numberOf (settle p board (guard n (carry ws after gives)) .number) ≡ 0
+    → isOff (after .controller .phase) ≡ false
+    → isOff (phaseOf (settle p board (guard n (carry ws after gives)) .board)) ≡ false
+awake-after p board n ws after gives e awake = ap (λ (o : Outcome). isOff (phaseOf (o .board))) (accepted-whole p board n ws after gives e .1) ∙ awake
+
 -- a step ends in Writing or in Running, the other calls leave the phase
 stays-awake : (p : ℕ) (board : Board) (c : Call) → Between c → numberOf (call p board c .number) ≡ 0 → isOff (phaseOf board) ≡ false
     → isOff (phaseOf (call p board c .board)) ≡ false
 unfolding call plan loadPlan peekPlan stepPlan sweepPlan
-stays-awake p board (load block offset len) a-load e awake =
-    ap (λ (o : Outcome). isOff (phaseOf (o .board))) (accepted-whole p board (loadNumber board block offset len) _ _ _ e .1) ∙ awake
-stays-awake p board (peek block) a-peek e awake = ap (λ (o : Outcome). isOff (phaseOf (o .board))) (accepted-whole p board (peekNumber board block) _ _ _ e .1) ∙ awake
-stays-awake p board (sweep limit) a-sweep e awake = ap (λ (o : Outcome). isOff (phaseOf (o .board))) (accepted-whole p board (sweepNumber board) _ _ _ e .1) ∙ awake
-stays-awake p board (step n) a-step e awake =
-    let count = countOf (phaseOf board) + length (nextWords board n) in
-    ap (λ (o : Outcome). isOff (phaseOf (o .board))) (accepted-whole p board (stepNumber board) _ _ _ e .1) ∙ either (eqb count (sizes board .slots + 9))
+stays-awake p board (load block offset len) a-load e awake = awake-after p board (loadNumber board block offset len) _ _ _ e awake
+stays-awake p board (peek block) a-peek e awake = awake-after p board (peekNumber board block) _ _ _ e awake
+stays-awake p board (sweep limit) a-sweep e awake = awake-after p board (sweepNumber board) _ _ _ e awake
+stays-awake p board (step n) a-step e awake = awake-after p board (stepNumber board) _ _ _ e (either (eqb count (sizes board .slots + 9)))
   where
-    either : (marked : Bool) → isOff (cond marked Running (Writing (countOf (phaseOf board) + length (nextWords board n)))) ≡ false
+    count : ℕ
+    count = countOf (phaseOf board) + length (nextWords board n)
+
+    either : (marked : Bool) → isOff (cond marked Running (Writing count)) ≡ false
     either true = refl
     either false = refl
 
@@ -126,7 +134,6 @@ begun-ready : (board : Board) (plain : Plain) (p₁ p₂ limit : ℕ) (registers
 unfolding SweptSlots TakenAgain
 begun-ready board plain p₁ p₂ limit registers v some-limit l e₁ e₂ =
     let swept = call p₁ board (sweep limit) .board in
-    let begun = call p₂ swept (begin registers) .board in
     let after-sweep = call-inv p₁ board plain v (sweep limit) R.a-sweep in
     let after-begin = call-inv p₂ swept (after-sweep .0) (after-sweep .1) (begin registers) a-begin in
     let hidden : getD (tableOf swept) (l .slot) 0 ≡ wordOf (l .block) Hidden = swept-slots p₁ limit board (l .slot) e₁ .swept (l .block) (l .clean) (omega (arith, l .first)) in

@@ -121,7 +121,7 @@ pub data AllBetween : List Asked → Type 0 where
   no-more : AllBetween []
   and-then : {a : Asked} {asked : List Asked} → Between (a .c) → AllBetween asked → AllBetween (a ∷ asked)
 
-abbrev asks : ℕ → Call → Asked
+abbrev pub asks : ℕ → Call → Asked
 asks p c = record { p = p; c = c }
 
 -- on any board, with a block twice in its table too. The second sweep is only accepted once the checkpoint is finished.
