@@ -17,7 +17,7 @@ use Rattle.rules.specs.Starts.{finishedIn, noCheckpoint, unsound, recove
 use Rattle.rules.specs.Calls.{Call, load, peek, store, begin, step, format, recover, sweep, plan, call}
 use Rattle.rules.specs.PlainMachine.{Plain, formatted, opened}
 use Rattle.rules.specs.Runs.{stop, Event, does, Run, afterFormat, fromNone, fromSome, promised, doing, unlessRefused, stopping, advance, runs, NoFormat, a-load, a-peek, a-store, a-begin, a-step, a-recover, a-sweep}
-use Rattle.rules.specs.Promises.{Shows, Demand2}
+use Rattle.rules.specs.Promises.{Demand2}
 use Rattle.rules.proofs.Clashes.{none-some}
 use Rattle.rules.proofs.Changing.{found}
 use Rattle.rules.proofs.Checked.{sizes-passed, Lent}
@@ -141,16 +141,20 @@ runs-stand [] run s = s
 runs-stand (does p c ∷ events) run s = runs-stand events (doing p c run) (call-stands p (run .board) (run .promise) s c)
 runs-stand (stop volatile ∷ events) run s = runs-stand events (stopping volatile run) (stop-stands (run .board) volatile (run .promise) s)
 
-pub demand-2 : Demand2
-unfolding Demand2
-demand-2 board events plain e =
-    go (runs events (record { board = board; promise = none }) .promise) (runs-stand events (record { board = board; promise = none }) unpromised) e
+-- a run that a promise stands behind looks like the plain machine
+pub run-inv : (board : Board) (events : List Event) (plain : Plain) → runs events (record { board = board; promise = none }) .promise ≡ some plain
+    → Inv (runs events (record { board = board; promise = none }) .board) plain
+run-inv board events plain e = go (run .promise) (runs-stand events (record { board = board; promise = none }) unpromised) e
   where
-    end-board : Board
-    end-board = runs events (record { board = board; promise = none }) .board
+    run : Run
+    run = runs events (record { board = board; promise = none })
 
-    go : (promise : Option Plain) → Stands end-board promise → promise ≡ some plain → Shows end-board plain
+    go : (promise : Option Plain) → Stands (run .board) promise → promise ≡ some plain → Inv (run .board) plain
     go none unpromised q = absurd (none-some plain q)
     go (some found) (standing-by v) q =
         let same : found ≡ plain = cc in
-        subst (Shows end-board) same (inv-shows end-board found v)
+        subst (Inv (run .board)) same v
+
+pub demand-2 : Demand2
+unfolding Demand2
+demand-2 board events plain e = inv-shows (runs events (record { board = board; promise = none }) .board) plain (run-inv board events plain e)

@@ -24,9 +24,11 @@ pub mod Demand3
 pub mod NoneFinished
 pub mod Demand2
 pub mod Moves
+pub mod RoomForStore
 pub mod SweepMoves
 pub mod SweepLoads
 pub mod RoomAgain
+pub mod NewBlocks
 pub mod ShortStores
 pub mod LetteredCases
 pub mod Pinned

@@ -87,7 +87,7 @@ unfolding outOfRange noBlock
 in-range-false board block offset len lt early some-len fits =
     rw (lt-leb (sizes board .blocks) block lt, le-ltb 63 offset early, ne-eqb len 0 some-len, le-ltb 64 (offset + len) fits)
 
-load-done : (board : Board) (plain : Plain) (v : Inv board plain) → isOff (phaseOf board) ≡ false → (block offset len : ℕ)
+pub load-done : (board : Board) (plain : Plain) (v : Inv board plain) → isOff (phaseOf board) ≡ false → (block offset len : ℕ)
     → outOfRange board block offset len ≡ false → loadNumber board block offset len ≡ No.Done
 unfolding loadNumber commonChecks firstOf
 load-done board plain v awake block offset len r =

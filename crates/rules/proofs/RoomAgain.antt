@@ -1,9 +1,8 @@
 -- Slots come free at the begin after a sweep, and are taken again.
 use mathlib.Core.Path.{_≡_, refl, sym, ap, _∙_, subst}
 use mathlib.Core.Logic.{_≢_, _⊎_, inl, inr}
-use mathlib.Core.Bool.{true, false, cond}
 use mathlib.Core.List.{List, [], _∷_, _++_, map}
-use mathlib.Core.Option.{Option, none, some}
+use mathlib.Core.Option.{some}
 use Prim.Native.Nat.{ℕ, zero, suc, _≤_, _<_}
 use native.Mathlib.Omega.{arith}
 use native.Mathlib.Nat.{not-suc-le-zero}
@@ -15,15 +14,14 @@ use Rattle.rules.specs.declared.Phase.the-variants.{Writing}
 use Rattle.rules.specs.declared.State.{State}
 use Rattle.rules.specs.declared.State.the-variants.{Clean, Dirty, Hidden, PreHidden, PreDirty}
 use Rattle.rules.specs.declared.Lookup.{Lookup}
-use Rattle.rules.specs.declared.Lookup.the-variants.{Entry, Nothing}
+use Rattle.rules.specs.declared.Lookup.the-variants.{Nothing}
 use Rattle.rules.specs.declared.Place.the-variants.{Cache}
-use Rattle.rules.specs.declared.Number.the-variants as No
 use Rattle.rules.specs.TableWords.{wordOf, Says, free, names, neither, says, lookup, lowestFree, entryOr, changedBy, changed}
-use Rattle.rules.specs.Board.{Board, Volatile, sizes, phaseOf, tableOf}
-use Rattle.rules.specs.Numbers.{numberOf, _⇒_, whileWriting, allows, outOfRange}
-use Rattle.rules.specs.Power.{carry, guard, Outcome, settle}
-use Rattle.rules.specs.Loads.{spotIn, seen, loadNumber}
-use Rattle.rules.specs.Stores.{replaced, to, stores, moveIn, slotFor, full, isShort, windowFor, layAt, moved, movedTo, storeBy, storePlan}
+use Rattle.rules.specs.Board.{Board, phaseOf, tableOf}
+use Rattle.rules.specs.Numbers.{numberOf, isWriting}
+use Rattle.rules.specs.Power.{Outcome}
+use Rattle.rules.specs.Loads.{loadNumber}
+use Rattle.rules.specs.Stores.{to, stores, moveIn, slotFor}
 use Rattle.rules.specs.Checkpoints.{begun, beginNumber, beginPlan}
 use Rattle.rules.specs.Sweeps.{CleanEntry, lowestClean, hidden}
 use Rattle.rules.specs.Calls.{Call, load, peek, store, begin, step, sweep, plan, call}
@@ -31,12 +29,11 @@ use Rattle.rules.specs.Promises.{NoEntry, StoreLeaves, Leaves, StatesMov
 use Rattle.rules.specs.SweepPromises.{Asked, AllDone, no-more, and-call, Between, a-load, a-peek, a-step, a-sweep, AllBetween, and-then, EmptyTable, TakesSlot, TakenAgain}
 use Rattle.rules.proofs.Clashes.{false-true}
 use Rattle.rules.proofs.TableWordLaws.{says-word, says-zero, names-word, free-word}
-use Rattle.rules.proofs.Finding.{Finds, finds, finds-lookup, found-at, found-lt, finds-nothing}
-use Rattle.rules.proofs.Changing.{changed-zero, changed-entry, changed-get, all-set, all-get}
+use Rattle.rules.proofs.Finding.{finds-lookup, finds-nothing}
+use Rattle.rules.proofs.Changing.{changed-zero, changed-entry, changed-get, all-set}
 use Rattle.rules.proofs.FreeSlot.{Vacant, VacantAt, vacant, vacant-at, vacant-below}
-use Rattle.rules.proofs.Checked.{common-passed, common-formed, formed-names}
-use Rattle.rules.proofs.Answers.{carry-nothing}
-use Rattle.rules.proofs.Moves.{store-room, accepted-whole, states-move}
+use Rattle.rules.proofs.Moves.{accepted-whole, states-move}
+use Rattle.rules.proofs.RoomForStore.{store-accepted}
 use Rattle.rules.proofs.SweepMoves.{sweptBy, sweptTable, CleanOrNot, is-clean, is-not, clean-or-not, sweep-table}
 
 -- ---- words that the next begin frees
@@ -112,6 +109,11 @@ unfolding hidden
 hidden-count [] table = refl
 hidden-count (entry ∷ entries) table = hidden-count entries _ ∙ length-set table (entry .slot) (wordOf (entry .block) Hidden)
 
+pub swept-count : (p limit : ℕ) (board : Board) → numberOf (call p board (sweep limit) .number) ≡ 0
+    → length (tableOf (call p board (sweep limit) .board)) ≡ length (tableOf board)
+unfolding StatesMove Leaves
+swept-count p limit board e = ap length (states-move p board (sweep limit) .0 e) ∙ hidden-count (lowestClean limit (tableOf board)) (tableOf board)
+
 hidden-words : {P : ℕ → Type 0} → ((block : ℕ) → P (wordOf block Hidden)) → (entries : List CleanEntry) (table : List ℕ) → All P table → All P (hidden entries table)
 unfolding hidden
 hidden-words kind [] table a = a
@@ -125,11 +127,9 @@ module _ (P : ℕ → Type 0) (kind : (block : ℕ) → P (wordOf block Hidden))
   one-between p board (peek block) a-peek e h = same-table (states-move p board (peek block) .0 e) h
   one-between p board (step n) a-step e h = same-table (states-move p board (step n) .0 e) h
   one-between p board (sweep limit) a-sweep e h =
-      let entries = lowestClean limit (tableOf board) in
-      let left = states-move p board (sweep limit) .0 e in
       record {
-        count = ap length left ∙ hidden-count entries (tableOf board) ∙ h .count;
-        words = subst (All P) (sym left) (hidden-words kind entries (tableOf board) (h .words));
+        count = swept-count p limit board e ∙ h .count;
+        words = subst (All P) (sym (states-move p board (sweep limit) .0 e)) (hidden-words kind (lowestClean limit (tableOf board)) (tableOf board) (h .words));
       }
 
   all-between : {board after : Board} (asked : List Asked) → AllBetween asked → AllDone board asked after → Holds P slots board → Holds P slots after
@@ -154,11 +154,19 @@ begin-table : (p : ℕ) (board : Board) (registers : List ℕ) → numberOf (cal
 unfolding StatesMove Leaves
 begin-table p board registers e = states-move p board (begin registers) .0 e
 
+pub begin-count : (p : ℕ) (board : Board) (registers : List ℕ) → numberOf (call p board (begin registers) .number) ≡ 0
+    → length (tableOf (call p board (begin registers) .board)) ≡ length (tableOf board)
+begin-count p board registers e = ap length (begin-table p board registers e) ∙ length-map (tableOf board) (changed begun)
+
+pub begin-writing : (p : ℕ) (board : Board) (registers : List ℕ) → numberOf (call p board (begin registers) .number) ≡ 0
+    → phaseOf (call p board (begin registers) .board) ≡ Writing 0
+unfolding call plan beginPlan
+begin-writing p board registers e = ap (λ (out : Outcome). phaseOf (out .board)) (accepted-whole p board (beginNumber board registers) _ _ [] e .1)
+
 first-begin : (p slots : ℕ) (board : Board) (registers : List ℕ) → length (tableOf board) ≡ slots → numberOf (call p board (begin registers) .number) ≡ 0
     → Holds Quiet slots (call p board (begin registers) .board)
 first-begin p slots board registers size e =
-    let left = begin-table p board registers e in
-    record { count = ap length left ∙ length-map (tableOf board) (changed begun) ∙ size; words = subst (All Quiet) (sym left) (all-quiet (tableOf board)) }
+    record { count = begin-count p board registers e ∙ size; words = subst (All Quiet) (sym (begin-table p board registers e)) (all-quiet (tableOf board)) }
 
 second-sweep : {board after : Board} (p limit slots : ℕ) (rest : List Asked) → slots ≤ limit → AllBetween rest → AllDone board (record { p = p; c = sweep limit } ∷ rest) after
     → Holds Quiet slots board → Holds Leaving slots after
@@ -175,13 +183,12 @@ second-begin {board} p slots registers (and-call e no-more) h =
     begin-table p board registers e ∙ all-free (tableOf board) (h .words) ∙ ap (λ (n : ℕ). replicate n 0) (h .count)
 
 pub empty-table : EmptyTable
-unfolding EmptyTable StatesMove Leaves
+unfolding EmptyTable
 empty-table board after p₁ p₂ p₃ p₄ all₁ all₂ registers₁ registers₂ finish rest between₁ between₂ h₁ h₂ (and-call e₁ (and-call e₂ run)) =
     let slots = length (tableOf board) in
-    let size = ap length (states-move p₁ board (sweep all₁) .0 e₁) ∙ hidden-count (lowestClean all₁ (tableOf board)) (tableOf board) in
     let whole = parted (finish ++ record { p = p₃; c = sweep all₂ } ∷ rest) (record { p = p₄; c = begin registers₂ } ∷ []) run in
     let part = parted finish (record { p = p₃; c = sweep all₂ } ∷ rest) (whole .before) in
-    let finished = all-between Quiet hidden-quiet slots finish between₁ (part .before) (first-begin p₂ slots _ registers₁ size e₂) in
+    let finished = all-between Quiet hidden-quiet slots finish between₁ (part .before) (first-begin p₂ slots _ registers₁ (swept-count p₁ all₁ board e₁) e₂) in
     second-begin p₄ slots registers₂ (whole .behind) (second-sweep p₃ all₂ slots rest h₂ between₂ (part .behind) finished)
 
 -- ---- the slot is taken again
@@ -191,50 +198,21 @@ unfolding NoEntry
 no-entry-found block table none-there =
     finds-lookup (finds-nothing block table (λ i h. record { never = λ state e. none-there i state h (names-word (getD table i 0) block state e) }))
 
--- a store while Writing goes to CACHE, so that no supply cuts it; a free slot is room
-module _ (board : Board) (count slot : ℕ) (writing : phaseOf board ≡ Writing count) (inside : slot < length (tableOf board)) (room : getD (tableOf board) slot 0 ≡ 0)
+-- a free slot that a store takes while Writing
+module _ (board : Board) (slot : ℕ) (inside : slot < length (tableOf board)) (room : getD (tableOf board) slot 0 ≡ 0)
     (block offset : ℕ) (bytes : List ℕ) (checked : numberOf (loadNumber board block offset (length bytes)) ≡ 0) where
   abbrev table : List ℕ
   table = tableOf board
 
-  -- an entry that is found is one that Writing allows: neither dirty nor hidden
-  writing-state : (i : ℕ) (state : State) → Finds block table (Entry i state) → whileWriting state ≡ true
-  unfolding loadNumber allows
-  writing-state i state f =
-      let common = common-passed board false ((outOfRange board block offset (length bytes) ⇒ No.Range) ∷ []) checked .0 in
-      formed-names whileWriting (sizes board) (getD table i 0) block state (all-get i (common-formed common (Writing count) writing) (found-lt f)) (found-at f) .1
-
-  store-accepted : (q : ℕ) → numberOf (call q board (store block offset bytes) .number) ≡ 0
-  unfolding call plan storePlan storeBy guard movedTo moved slotFor full moveIn stores layAt spotIn numberOf whileWriting
-  store-accepted q =
-      rw (store-room board block offset bytes checked)
-      (ap (λ (phase : Phase). answer phase (lookup block table) (lowestFree table)) writing ∙ go (lookup block table) (finds block table) (lowestFree table) (vacant table))
-    where
-      fresh : List ℕ
-      fresh = replaced (seen board block) offset bytes
-
-      answer : Phase → Lookup → Option ℕ → ℕ
-      answer phase r z =
-          numberOf (settle q board (guard (cond (full (slotFor r z)) No.Full No.Done) (movedTo board block (slotFor r z) fresh (windowFor (isShort phase r) offset (length bytes)) (moveIn phase (stores r)))) .number)
-
-      uncut : (after : Volatile) → numberOf (settle q board (carry [] after []) .number) ≡ 0
-      uncut after = ap (λ (out : Outcome). numberOf (out .number)) (carry-nothing q board after [])
-
-      go : (r : Lookup) → Finds block table r → (z : Option ℕ) → VacantAt table z → answer (Writing count) r z ≡ 0
-      go Nothing f none v = absurd (all-get slot v inside (ap says room ∙ says-zero))
-      go Nothing f (some lowest) v = uncut _
-      go (Entry i Clean) f z v = uncut _
-      go (Entry i Dirty) f z v = absurd (false-true (writing-state i Dirty f))
-      go (Entry i Hidden) f z v = absurd (false-true (writing-state i Hidden f))
-      go (Entry i PreHidden) f z v = uncut _
-      go (Entry i PreDirty) f z v = uncut _
-
-  store-takes : (q : ℕ) → TakesSlot slot board block (call q board (store block offset bytes))
+  store-takes : (q count : ℕ) → phaseOf board ≡ Writing count → TakesSlot slot board block (call q board (store block offset bytes))
   unfolding StatesMove Leaves slotFor moveIn stores
-  store-takes q = record { accepted = store-accepted q; taken = taken }
+  store-takes q count writing = record { accepted = accepted; taken = taken }
     where
+      accepted : numberOf (call q board (store block offset bytes) .number) ≡ 0
+      accepted = store-accepted board slot inside room block offset bytes checked q (λ idle. absurd (false-true (sym idle ∙ ap isWriting writing)))
+
       left : StoreLeaves board block offset bytes (call q board (store block offset bytes) .board)
-      left = states-move q board (store block offset bytes) .0 (store-accepted q)
+      left = states-move q board (store block offset bytes) .0 accepted
 
       taken : NoEntry block table
           → (lowest : ℕ)
@@ -260,24 +238,18 @@ module _ (board : Board) (count slot : ℕ) (writing : phaseOf board ≡ Writing
           )
 
 pub taken-again : TakenAgain
-unfolding TakenAgain call plan beginPlan Leaving
-taken-again p q board registers slot named inside is-hidden e = (room, λ block offset bytes checked. store-takes after 0 slot writing inside′ room block offset bytes checked q)
+unfolding TakenAgain Leaving
+taken-again p q board registers slot named inside is-hidden e = (room, λ block offset bytes checked. store-takes after slot inside′ room block offset bytes checked q 0 (begin-writing p board registers e))
   where
     after : Board
     after = call p board (begin registers) .board
 
-    table-after : tableOf after ≡ map (changed begun) (tableOf board)
-    table-after = begin-table p board registers e
-
-    writing : phaseOf after ≡ Writing 0
-    writing = ap (λ (out : Outcome). phaseOf (out .board)) (accepted-whole p board (beginNumber board registers) _ _ [] e .1)
-
     inside′ : slot < length (tableOf after)
-    inside′ = subst (λ (n : ℕ). slot < n) (sym (ap length table-after ∙ length-map (tableOf board) (changed begun))) inside
+    inside′ = subst (λ (n : ℕ). slot < n) (sym (begin-count p board registers e)) inside
 
     room : getD (tableOf after) slot 0 ≡ 0
     room =
-        ap (λ (table : List ℕ). getD table slot 0) table-after
+        ap (λ (table : List ℕ). getD table slot 0) (begin-table p board registers e)
         ∙ changed-get begun (tableOf board) slot
         ∙ ap (changed begun) is-hidden
         ∙ hidden-leaves named

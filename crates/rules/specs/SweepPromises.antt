@@ -1,9 +1,10 @@
 -- What document 02, No. 7 asks of sweeps beside demands 2 and 3, which have them among their calls.
--- The proofs are in proofs/SweepMoves.antt, SweepLoads.antt and RoomAgain.antt.
+-- The proofs are in proofs/SweepMoves.antt, SweepLoads.antt, RoomAgain.antt and NewBlocks.antt.
 use mathlib.Core.Path.{_≡_}
 use mathlib.Core.Logic.{_≢_}
 use mathlib.Core.Bool.{true, false}
 use mathlib.Core.List.{List, [], _∷_, _++_}
+use mathlib.Core.Option.{none, some}
 use Prim.Native.Nat.{ℕ, _+_, _*_, _≤_, _<_, min}
 use lib.ListN.{length, getD, set, take, replicate}
 use Rattle.rules.specs.declared.State.the-variants.{Clean, Dirty, Hidden, PreHidden, PreDirty}
@@ -14,6 +15,8 @@ use Rattle.rules.specs.Power.{Outcome}
 use Rattle.rules.specs.Loads.{seen, loadNumber}
 use Rattle.rules.specs.Sweeps.{CleanEntry, lowestClean}
 use Rattle.rules.specs.Calls.{Call, load, peek, store, begin, step, sweep, call}
+use Rattle.rules.specs.PlainMachine.{Plain}
+use Rattle.rules.specs.Runs.{Event, runs}
 use Rattle.rules.specs.Promises.{NoEntry}
 
 -- ---- how many entries are swept
@@ -118,7 +121,7 @@ pub data AllBetween : List Asked → Type 0 where
   no-more : AllBetween []
   and-then : {a : Asked} {asked : List Asked} → Between (a .c) → AllBetween asked → AllBetween (a ∷ asked)
 
-abbrev asks : ℕ → Call → Asked
+abbrev pub asks : ℕ → Call → Asked
 asks p c = record { p = p; c = c }
 
 -- on any board, with a block twice in its table too. The second sweep is only accepted once the checkpoint is finished.
@@ -154,3 +157,22 @@ TakenAgain =
     (getD (tableOf after) slot 0 ≡ 0)
     × ((block offset : ℕ) (bytes : List ℕ) → numberOf (loadNumber after block offset (length bytes)) ≡ 0
     → TakesSlot slot after block (call q after (store block offset bytes)))
+
+-- ---- after sweep, begin and finish a board that answered FULL takes a new block: from an accepted format or recovery on, one clean entry is enough
+
+unfoldable pub RoomAgain : Type 0
+RoomAgain =
+    (board : Board) (events : List Event) (plain : Plain) (after : Board) (p₁ p₂ limit : ℕ) (registers : List ℕ) (finish : List Asked)
+    → let run = runs events (record { board = board; promise = none }) in
+    run .promise ≡ some plain
+    → 1 ≤ limit
+    → 1 ≤ cleanIn (tableOf (run .board))
+    → AllBetween finish
+    → AllDone (run .board) (asks p₁ (sweep limit) ∷ asks p₂ (begin registers) ∷ finish) after
+    → (q block offset : ℕ) (bytes : List ℕ)
+    → block < sizes after .blocks
+    → offset ≤ 63
+    → length bytes ≢ 0
+    → offset + length bytes ≤ 64
+    → 8 ≤ q
+    → numberOf (call q after (store block offset bytes) .number) ≡ 0

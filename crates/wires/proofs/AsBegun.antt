@@ -16,14 +16,14 @@ use Rattle.rules.specs.Power.{stored}
 use Rattle.rules.specs.Checkpoints.{beginNumber, beginPlan}
 use Rattle.rules.specs.Calls.{Call, begin, step, plan, call}
 use Rattle.rules.specs.PlainMachine.{Picture, Plain, keptOr, did, finish, hasMark, note}
-use Rattle.rules.specs.Runs.{Event, does, Run, doing, advance, runs, NoFormat, a-load, a-peek, a-store, a-begin, a-step, runFrom}
+use Rattle.rules.specs.Runs.{Event, does, Run, doing, advance, runs, NoFormat, a-load, a-peek, a-store, a-begin, a-step, a-sweep, runFrom}
 use Rattle.rules.proofs.Checked.{common-passed}
 use Rattle.rules.proofs.Answers.{guard-accepted}
 use Rattle.rules.proofs.Invariant.{did-not}
 use Rattle.rules.proofs.Demand3.{Good, next, call-good, good-recovers, formatted-good}
 use Rattle.rules.proofs.NoneFinished.{kept-later}
 use Rattle.wires.specs.Reading.{Gives}
-use Rattle.wires.specs.Promises.{GoesOn, loads, peeks, stores, steps, fails, OnItsWay, AsBegun}
+use Rattle.wires.specs.Promises.{GoesOn, loads, peeks, stores, steps, sweeps, fails, OnItsWay, AsBegun}
 use Rattle.wires.specs.Promises as P
 use Rattle.wires.proofs.Unique.{gives-one}
 use Rattle.wires.proofs.Demands.{good-reads, recovers-wires, good-whole}
@@ -61,6 +61,7 @@ did-goes plain c n peeks = (refl, refl)
 did-goes plain c zero stores = (refl, refl)
 did-goes plain c (suc n) stores = (refl, refl)
 did-goes plain c n steps = (refl, refl)
+did-goes plain c n sweeps = (refl, refl)
 did-goes plain c n (fails nf ne) = (ap (λ (z : Plain). z .onItsWay) (did-not plain c n ne), ap (λ (z : Plain). z .kept) (did-not plain c n ne))
 
 goes-coming : (blocks : ℕ → List ℕ) (plain : Plain) (c : Call) (n : ℕ) → GoesOn c n → Coming blocks plain → Coming blocks (did plain c n)
@@ -80,6 +81,7 @@ goes-format loads = a-load
 goes-format peeks = a-peek
 goes-format stores = a-store
 goes-format steps = a-step
+goes-format sweeps = a-sweep
 goes-format (fails nf ne) = nf
 
 -- the board looks like a plain machine of which this holds

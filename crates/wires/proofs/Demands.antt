@@ -16,17 +16,16 @@ use Rattle.rules.specs.Board.{Board, sizes, phaseOf}
 use Rattle.rules.specs.Numbers.{numberOf, isOff}
 use Rattle.rules.specs.Power.{stored}
 use Rattle.rules.proofs.Moves.{store-checked, store-stored}
-use Rattle.rules.specs.Calls.{Call, load, peek, store, begin, step, format, recover, plan, call}
+use Rattle.rules.specs.Calls.{Call, load, peek, store, begin, step, format, recover, sweep, plan, call}
 use Rattle.rules.specs.PlainMachine.{Picture, Plain, overlaid, laidOver, update, did, finish, hasMark, note}
-use Rattle.rules.specs.Runs.{Event, does, Run, afterFormat, fromSome, promised, doing, advance, runs, NoFormat, a-load, a-peek, a-store, a-begin, a-step, a-recover, runFrom}
+use Rattle.rules.specs.Runs.{Event, does, Run, afterFormat, fromSome, promised, doing, advance, runs, NoFormat, a-load, a-peek, a-store, a-begin, a-step, a-recover, a-sweep, runFrom}
 use Rattle.rules.specs.Promises.{RecoversTo, Demand3}
-use Rattle.rules.proofs.Clashes.{none-some}
 use Rattle.rules.proofs.Checked.{passed}
 use Rattle.rules.proofs.Answers.{refused}
 use Rattle.rules.proofs.Invariant.{Inv, did-not}
 use Rattle.rules.proofs.LiveShown.{inv-shows, load-accepted, live-whole, kept-whole}
 use Rattle.rules.proofs.Demand3.{Good, next, call-good, formatted-good, demand-3}
-use Rattle.rules.proofs.Demand2.{Stands, unpromised, standing-by, runs-stand}
+use Rattle.rules.proofs.Demand2.{run-inv}
 use Rattle.records.specs.declared.Wire.{Wire}
 use Rattle.records.specs.declared.Found.the-variants.{Says}
 use Rattle.wires.specs.declared.Reading.{Reading}
@@ -35,7 +34,7 @@ use Rattle.records.specs.Records.{written}
 use Rattle.records.specs.Classes.{firstSheet, classOf}
 use Rattle.wires.specs.Reading as R
 use Rattle.wires.specs.Reading.{Gives, read-as, ReadsWire}
-use Rattle.wires.specs.Promises.{LiveReads, Spares, loads, peeks, stores-another, begins, steps, refuses, Quiet, no-more, and-then, WrittenReads, WiresIn, RecoveredReads}
+use Rattle.wires.specs.Promises.{LiveReads, Spares, loads, peeks, stores-another, begins, steps, sweeps, refuses, Quiet, no-more, and-then, WrittenReads, WiresIn, RecoveredReads}
 use Rattle.records.proofs.Encoding.{written-whole}
 use Rattle.records.specs.Promises.{RoundTrip}
 use Rattle.records.proofs.Blocks.{round-trip}
@@ -60,19 +59,7 @@ good-reads g run plain v w r awake h reads =
 -- a run that a promise stands behind looks like the plain machine
 run-good : (board : Board) (events : List Event) (plain : Plain) → runs events (record { board = board; promise = none }) .promise ≡ some plain
     → Good (sizes (runs events (record { board = board; promise = none }) .board)) (runs events (record { board = board; promise = none })) plain
-run-good board events plain e = record { stands = e; inv = go (run .promise) (runs-stand events start unpromised) e; same = refl }
-  where
-    start : Run
-    start = record { board = board; promise = none }
-
-    run : Run
-    run = runs events start
-
-    go : (promise : Option Plain) → Stands (run .board) promise → promise ≡ some plain → Inv (run .board) plain
-    go none unpromised q = absurd (none-some plain q)
-    go (some found) (standing-by v) q =
-        let same : found ≡ plain = cc in
-        subst (Inv (run .board)) same v
+run-good board events plain e = record { stands = e; inv = run-inv board events plain e; same = refl }
 
 pub live-reads : LiveReads
 unfolding LiveReads
@@ -156,6 +143,7 @@ module _ (g : Geometry) (w : ℕ) (block : List ℕ) (run : Run) (p : ℕ) where
   spared c (begins {registers = registers}) s =
       kept-by (begin registers) a-begin s (ap (λ (live : ℕ → List ℕ). live w) (did-begin (s .plain) registers (numberOf (call p (run .board) (begin registers) .number))))
   spared c (steps {most = most}) s = kept-by (step most) a-step s refl
+  spared c (sweeps {limit = limit}) s = kept-by (sweep limit) a-sweep s refl
   spared (load q offset len) (refuses ne ne′) s = kept-refused (load q offset len) a-load s ne
   spared (peek q) (refuses ne ne′) s = kept-refused (peek q) a-peek s ne
   spared (store q offset bytes) (refuses ne ne′) s = kept-refused (store q offset bytes) a-store s ne
@@ -163,6 +151,7 @@ module _ (g : Geometry) (w : ℕ) (block : List ℕ) (run : Run) (p : ℕ) where
   spared (step most) (refuses ne ne′) s = kept-refused (step most) a-step s ne
   spared (format h fill) (refuses ne ne′) s = kept-format h fill s ne ne′
   spared (recover h) (refuses ne ne′) s = kept-refused (recover h) a-recover s ne
+  spared (sweep limit) (refuses ne ne′) s = kept-refused (sweep limit) a-sweep s ne
 
 quiet-holds : (g : Geometry) (w : ℕ) (block : List ℕ) (run : Run) (events : List Event) → Quiet w run events → Holds g w block run → Holds g w block (runs events run)
 unfolding runs advance

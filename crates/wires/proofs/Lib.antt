@@ -3,3 +3,4 @@ pub mod Unique
 pub mod Telling
 pub mod Demands
 pub mod AsBegun
+pub mod Room

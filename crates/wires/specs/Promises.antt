@@ -1,18 +1,19 @@
--- What is promised of wires (document 02, No. 1). The proofs are in proofs/Telling.antt, proofs/Demands.antt and proofs/AsBegun.antt.
+-- What is promised of wires (document 02, No. 1 and No. 7). The proofs are in proofs/Telling.antt, Demands.antt, AsBegun.antt and Room.antt.
 use mathlib.Core.Path.{_≡_}
 use mathlib.Core.Logic.{_≢_, _⊎_}
 use mathlib.Core.Bool.{true, false}
 use mathlib.Core.List.{List, [], _∷_}
 use mathlib.Core.Option.{none, some}
-use Prim.Native.Nat.{ℕ, _<_}
+use Prim.Native.Nat.{ℕ, _≤_, _<_}
 use Rattle.words.specs.Words.{lay}
 use Rattle.rules.specs.declared.Geometry.{Geometry}
-use Rattle.rules.specs.Board.{Board, Volatile, sizes, phaseOf}
+use Rattle.rules.specs.Board.{Board, Volatile, sizes, phaseOf, tableOf}
 use Rattle.rules.specs.Numbers.{numberOf, isOff}
 use Rattle.rules.specs.Power.{stored}
-use Rattle.rules.specs.Calls.{Call, load, peek, store, begin, step, recover, plan, call}
+use Rattle.rules.specs.Calls.{Call, load, peek, store, begin, step, recover, sweep, plan, call}
 use Rattle.rules.specs.PlainMachine.{Picture, Plain, hasMark, note}
 use Rattle.rules.specs.Runs.{Event, does, Run, doing, runs, Lengths, NoFormat, FromFormat, runFrom, NoneFinished}
+use Rattle.rules.specs.SweepPromises.{cleanIn, Asked, AllDone, AllBetween, asks}
 use Rattle.records.specs.declared.Wire.{Wire}
 use Rattle.records.specs.declared.Found.the-variants.{Says}
 use Rattle.wires.specs.declared.Reading.{Reading}
@@ -52,6 +53,7 @@ pub data Spares (w : ℕ) : Call → ℕ → Type 0 where
   stores-another : {block offset n : ℕ} {bytes : List ℕ} → block ≢ w → Spares w (store block offset bytes) n
   begins : {registers : List ℕ} {n : ℕ} → Spares w (begin registers) n
   steps : {most n : ℕ} → Spares w (step most) n
+  sweeps : {limit n : ℕ} → Spares w (sweep limit) n
   refuses : {c : Call} {n : ℕ} → n ≢ 0 → n ≢ 20 → Spares w c n
 
 -- a run goes on by such calls
@@ -108,6 +110,7 @@ pub data GoesOn : Call → ℕ → Type 0 where
   peeks : {block n : ℕ} → GoesOn (peek block) n
   stores : {block offset n : ℕ} {bytes : List ℕ} → GoesOn (store block offset bytes) n
   steps : {most n : ℕ} → GoesOn (step most) n
+  sweeps : {limit n : ℕ} → GoesOn (sweep limit) n
   fails : {c : Call} {n : ℕ} → NoFormat c → n ≢ 0 → GoesOn c n
 
 -- a run goes on by such calls
@@ -143,3 +146,21 @@ AsBegun =
     → ReadsWire (first .board) w r
     → ReadsWire (call t (record { memory = end .board .memory; volatile = volatile }) (recover g) .board) w r′
     → r′ ≡ r
+
+-- ---- room for a new wire (document 02, No. 7)
+
+-- While quiet wires sit in clean entries a board may answer FULL. With one of them it takes the new wire after sweep, begin and finish,
+-- each accepted, from a supply of 8 words.
+unfoldable pub RoomForWire : Type 0
+RoomForWire =
+    (board : Board) (events : List Event) (plain : Plain) (after : Board) (p₁ p₂ limit : ℕ) (registers : List ℕ) (finish : List Asked)
+    → let run = runs events (record { board = board; promise = none }) in
+    run .promise ≡ some plain
+    → 1 ≤ limit
+    → 1 ≤ cleanIn (tableOf (run .board))
+    → AllBetween finish
+    → AllDone (run .board) (asks p₁ (sweep limit) ∷ asks p₂ (begin registers) ∷ finish) after
+    → (q w : ℕ) (wire : Wire)
+    → w < sizes after .blocks
+    → 8 ≤ q
+    → numberOf (call q after (store w 0 (written wire)) .number) ≡ 0
