@@ -8,8 +8,7 @@ use native.Mathlib.Omega.{arith}
 use native.Mathlib.Nat.{suc-ne-zero}
 use lib.Dec.{eqb}
 use lib.ListN.{length, take, drop, length-take, length-drop, length-map}
-use lib.Seq.{take-all}
-use borrow.Author.Tests.{eqb-true, not-false, not-true}
+use borrow.Author.Tests.{eqb-true, not-false}
 use Rattle.words.specs.Words.{Store, Lays, lay}
 use Rattle.words.proofs.Laying.{take-most, relaid, laid-whole}
 use Rattle.rules.specs.declared.Phase.{Phase}

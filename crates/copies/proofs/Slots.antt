@@ -1,11 +1,10 @@
 -- Begin over all slots: the list of copies slot by slot, and the table changed word by word.
 use mathlib.Core.Path.{_≡_, refl, sym, ap, _∙_}
-use mathlib.Core.Logic.{_≢_}
 use mathlib.Core.List.{List, [], _∷_, _++_, map, append-assoc, append-nil}
 use mathlib.Core.Bool.{Bool, true}
 use Prim.Native.Nat.{ℕ, zero, suc, _+_, _*_, _-_, _≤_, _<_}
 use native.Mathlib.Omega.{arith}
-use native.Mathlib.Nat.{add-zero, suc-ne-zero}
+use native.Mathlib.Nat.{add-zero}
 use native.Mathlib.Numerals.{add-one}
 use lib.ListN.{length, take, drop, getD, set, length-append, length-take, drop-of-length-le}
 use lib.Seq.{take-all, take-nil, take-take, take-suc}
@@ -15,9 +14,7 @@ use Rattle.words.proofs.Laying.{lays-then}
 use Rattle.words.proofs.Blocks.{block-part}
 use Rattle.words.proofs.Parts.{tail-part}
 use Rattle.rules.specs.declared.Geometry.{Geometry}
-use Rattle.rules.specs.declared.Number.the-variants as No
 use Rattle.rules.specs.TableWords.{says, every}
-use Rattle.rules.specs.Numbers.{numberOf}
 use Rattle.rules.specs.Checkpoints.{copiedTo, copyOf, copies}
 use Rattle.rules.proofs.Changing.{every-all, all-get}
 use Rattle.copies.proofs.Words.{few-words}

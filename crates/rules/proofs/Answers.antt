@@ -123,6 +123,18 @@ carry-accepted p board ws after gives = go (leb (length ws) p)
     go true e = refl
     go false e = absurd (suc-ne-zero 19 e)
 
+-- and all its words are stored
+pub stored-accepted : (p : ℕ) (board : Board) (n : Number) (ws : List Store) (after : Volatile) (gives : List ℕ)
+    → numberOf (settle p board (guard n (carry ws after gives)) .number) ≡ 0 → stored p (guard n (carry ws after gives)) ≡ ws
+unfolding settle stored numberOf
+stored-accepted p board n ws after gives e =
+    let a = guard-accepted p board n (carry ws after gives) e in
+    ap (stored p) (past-guard n (carry ws after gives) (a .0)) ∙ go (leb (length ws) p) refl (ap (λ (o : Outcome). numberOf (o .number)) (sym (a .1)) ∙ e)
+  where
+    go : (t : Bool) → leb (length ws) p ≡ t → numberOf (cond t (whole board ws after gives) (cut p board ws after) .number) ≡ 0 → take p ws ≡ ws
+    go true q z = take-all p ws (leb-true (length ws) p q)
+    go false q z = absurd (suc-ne-zero 19 z)
+
 -- an empty list is never cut, at an allowance of 0 either
 pub carry-nothing : (p : ℕ) (board : Board) (after : Volatile) (gives : List ℕ) → settle p board (carry [] after gives) ≡ whole board [] after gives
 unfolding settle

@@ -25,7 +25,7 @@ use Rattle.rules.specs.PlainMachine.{Plain}
 use Rattle.rules.specs.Runs.{runs, NoFormat, a-begin}
 use Rattle.rules.specs.Runs as R
 use Rattle.rules.specs.Promises.{Leaves, StatesMove}
-use Rattle.rules.specs.SweepPromises.{oneIfClean, cleanIn, SweptSlots, Asked, AllDone, no-more, and-call, Between, a-load, a-peek, a-step, a-sweep, AllBetween, and-then, TakenAgain, RoomAgain}
+use Rattle.rules.specs.SweepPromises.{oneIfClean, cleanIn, SweptSlots, Asked, AllDone, no-more, and-call, Between, a-load, a-peek, a-step, a-sweep, AllBetween, and-then, TakenAgain, RoomAgain, asks}
 use Rattle.rules.proofs.TableWordLaws.{names-word, word-nonzero}
 use Rattle.rules.proofs.Invariant.{Inv, settled}
 use Rattle.rules.proofs.LiveShown.{in-range-false, load-done}
@@ -156,8 +156,20 @@ ready-stores slot board r q block offset bytes below early some-bytes fits suppl
 
 pub room-again : RoomAgain
 unfolding RoomAgain
-room-again board events plain after p₁ p₂ limit registers finish stands some-limit some-clean between (and-call e₁ (and-call e₂ run)) =
-    let start = runs events (record { board = board; promise = none }) .board in
-    let l = lowest (tableOf start) some-clean in
-    ready-stores (l .slot) after
-    (all-ready (l .slot) finish between run (begun-ready start plain p₁ p₂ limit registers (run-inv board events plain stands) some-limit l e₁ e₂))
+room-again after r = go (r .done)
+  where
+    start : Board
+    start = runs (r .events) (record { board = r .board; promise = none }) .board
+
+    l : Lowest (tableOf start)
+    l = lowest (tableOf start) (r .some-clean)
+
+    Stores : Type 0
+    Stores = (q block offset : ℕ) (bytes : List ℕ) → block < sizes after .blocks → offset ≤ 63 → length bytes ≢ 0 → offset + length bytes ≤ 64 → 8 ≤ q
+        → numberOf (call q after (store block offset bytes) .number) ≡ 0
+
+    go : AllDone start (asks (r .p₁) (sweep (r .limit)) ∷ asks (r .p₂) (begin (r .registers)) ∷ r .finish) after → Stores
+    go (and-call e₁ (and-call e₂ run)) =
+        ready-stores (l .slot) after
+        (all-ready (l .slot) (r .finish) (r .between) run
+        (begun-ready start (r .plain) (r .p₁) (r .p₂) (r .limit) (r .registers) (run-inv (r .board) (r .events) (r .plain) (r .stands)) (r .some-limit) l e₁ e₂))

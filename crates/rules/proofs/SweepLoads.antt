@@ -9,7 +9,7 @@ use native.Mathlib.Decide.{ℕ-discrete}
 use lib.Dec.{eqb}
 use lib.ListN.{take, drop, length-set}
 use borrow.Author.Tests.{eqb-true, leb-false}
-use Rattle.words.specs.Words.{blockAt, lay, bytesTo}
+use Rattle.words.specs.Words.{blockAt, Store, lay, bytesTo}
 use Rattle.words.proofs.Lists.{lay-length}
 use Rattle.rules.specs.declared.Geometry.{Geometry}
 use Rattle.rules.specs.declared.Phase.{Phase}
@@ -22,7 +22,7 @@ use Rattle.rules.specs.Geometry.{homeBlock, checkpointBlock}
 use Rattle.rules.specs.TableWords.{wordOf, distinct, every}
 use Rattle.rules.specs.Board.{Board, sizes, cacheOf, tableOf}
 use Rattle.rules.specs.Numbers.{numberOf, Check, _⇒_, firstOf, allows, wellFormed, malformed, commonChecks, noBlock, outOfRange}
-use Rattle.rules.specs.Power.{refuse, carry, guard, Outcome, whole, settle}
+use Rattle.rules.specs.Power.{Plan, refuse, carry, guard, Outcome, whole, settle, stored}
 use Rattle.rules.specs.Loads.{spotIn, seen, loadNumber, loadPlan, peekNumber, peekPlan}
 use Rattle.rules.specs.Sweeps.{CleanEntry, lowestClean, homeCopies, hidden, sweepNumber, sweepPlan}
 use Rattle.rules.specs.Calls.{load, peek, store, sweep, plan, call}
@@ -35,8 +35,8 @@ use Rattle.rules.proofs.Checked.{passed, common-passed, past-common, Le
 use Rattle.rules.proofs.LaidAt.{memoryWith, cacheWith, Room}
 use Rattle.rules.proofs.Invariant.{Live}
 use Rattle.rules.proofs.KeepsStore.{old, live-stored}
-use Rattle.rules.proofs.Sweeping.{Waiting, and-above, waiting-set, lowest-waiting, Open, sweep-open, open-lent, open-formed, swept-block, sweptOnce, sweptAll, update-itself, shown, copy-whole, home-room, copy-laid, as-store, first-then}
-use Rattle.rules.proofs.Answers.{carry-nothing, refused}
+use Rattle.rules.proofs.Sweeping.{Waiting, and-above, waiting-set, lowest-waiting, Open, sweep-open, open-lent, open-formed, swept-block, sweptOnce, sweptAll, update-itself, shown, copy-whole, home-room, copy-laid, as-store, reads-on, first-then}
+use Rattle.rules.proofs.Answers.{stored-accepted, carry-nothing, refused}
 use Rattle.rules.proofs.Moves.{accepted-whole}
 
 -- ---- one entry
@@ -94,11 +94,11 @@ module _ (board : Board) (o : Open board) (apart : Apart (tableOf board)) (slot 
 record Unchanged (board : Board) (entries : List CleanEntry) (after : Board) : Type 0 where
   pub opened : Open after
   pub same : (k : ℕ) → k < sizes board .blocks → seen after k ≡ seen board k
-  pub again : StoredAgain board entries after
+  pub again : StoredAgain board entries (homeCopies (sizes board) (board .memory) entries) after
 
 unchanged : (entries : List CleanEntry) (board : Board) → Open board → Apart (tableOf board) → {low : ℕ} → Waiting (tableOf board) low entries
     → Unchanged board entries (sweptAll board entries)
-unfolding homeCopies hidden lay numberOf
+unfolding homeCopies hidden lay numberOf stored plan bytesTo
 unchanged [] board o apart w = record { opened = o; same = λ k h. refl; again = no-more }
 unchanged (entry ∷ entries) board o apart (and-above a b c w) =
     let slot = entry .slot in
@@ -106,7 +106,7 @@ unchanged (entry ∷ entries) board o apart (and-above a b c w) =
     let below = swept-block o slot block b c in
     let found = apart-finds block slot Clean apart b c in
     let next = sweptOnce board slot block in
-    let stored = stored-again board o apart slot block found below in
+    let stored-once = stored-again board o apart slot block found below in
     let later =
     unchanged entries next (still-open board o apart slot block found below) (after-store board o apart slot block found below .apart)
     (waiting-set slot (wordOf block Hidden) (omega arith) w)
@@ -114,8 +114,12 @@ unchanged (entry ∷ entries) board o apart (and-above a b c w) =
     subst (Unchanged board (entry ∷ entries)) (first-then board o slot block found below entries) (record {
       opened = later .opened;
       same = λ k h. later .same k h ∙ still-shown board o apart slot block found below k h;
-      again = and-store (ap (λ (out : Outcome). numberOf (out .number)) stored) (ap (λ (out : Outcome). out .words) stored)
-          (subst (λ (then : Board). StoredAgain then entries (sweptAll next entries)) (sym (ap (λ (out : Outcome). out .board) stored)) (later .again));
+      again =
+          subst (λ (words : List Store). StoredAgain board (entry ∷ entries) words (sweptAll next entries))
+          (ap (λ (q : Plan). stored 8 q ++ homeCopies (sizes board) (next .memory) entries) (as-store board o slot block found below)
+          ∙ ap (λ (words : List Store). bytesTo (8 * homeBlock (sizes board) block) 8 (blockAt (board .memory) (checkpointBlock (sizes board) slot)) ++ words) (reads-on board o slot block found below entries))
+          (and-store (ap (λ (out : Outcome). numberOf (out .number)) stored-once) (ap (λ (out : Outcome). out .words) stored-once)
+          (subst (λ (then : Board). StoredAgain then entries (homeCopies (sizes board) (next .memory) entries) (sweptAll next entries)) (sym (ap (λ (out : Outcome). out .board) stored-once)) (later .again)));
     })
 
 -- ---- boards that show the same blocks
@@ -163,6 +167,7 @@ module _ (board : Board) (entries : List CleanEntry) (o : Open board) (u : Uncha
 record SweptBoard (p limit : ℕ) (board : Board) : Type 0 where
   pub opened : Open board
   pub leaves : call p board (sweep limit) .board ≡ sweptAll board (lowestClean limit (tableOf board))
+  pub list : stored p (plan board (sweep limit)) ≡ homeCopies (sizes board) (board .memory) (lowestClean limit (tableOf board))
   pub unchanged : Unchanged board (lowestClean limit (tableOf board)) (sweptAll board (lowestClean limit (tableOf board)))
 
 accepted : (p limit : ℕ) (board : Board) → distinct (tableOf board) ≡ true → numberOf (call p board (sweep limit) .number) ≡ 0 → SweptBoard p limit board
@@ -171,7 +176,7 @@ accepted p limit board d e =
     let entries = lowestClean limit (tableOf board) in
     let a = accepted-whole p board (sweepNumber board) (homeCopies (sizes board) (board .memory) entries) (sweptAll board entries .volatile) [] e in
     let o = sweep-open board (a .0) in
-    record { opened = o; leaves = ap (λ (out : Outcome). out .board) (a .1); unchanged = unchanged entries board o (distinct-apart (tableOf board) d) (lowest-waiting limit (tableOf board)) }
+    record { opened = o; leaves = ap (λ (out : Outcome). out .board) (a .1); list = stored-accepted p board (sweepNumber board) _ _ [] e; unchanged = unchanged entries board o (distinct-apart (tableOf board) d) (lowest-waiting limit (tableOf board)) }
 
 pub no-load-changes : NoLoadChanges
 unfolding NoLoadChanges
@@ -191,4 +196,7 @@ no-load-changes p limit board d ne = go (ℕ-discrete (numberOf (call p board (s
 pub as-stores : AsStores
 unfolding AsStores
 as-stores p limit board d e =
-    let s = accepted p limit board d e in subst (StoredAgain board (lowestClean limit (tableOf board))) (sym (s .leaves)) (s .unchanged .again)
+    let entries = lowestClean limit (tableOf board) in
+    let s = accepted p limit board d e in
+    subst (λ (words : List Store). StoredAgain board entries words (call p board (sweep limit) .board)) (sym (s .list))
+    (subst (StoredAgain board entries (homeCopies (sizes board) (board .memory) entries)) (sym (s .leaves)) (s .unchanged .again))

@@ -89,7 +89,7 @@ abbrev pub other : Backup → Backup
 other A = B
 other B = A
 
--- the mark: 1 = A is finished, 2 = B is finished
+-- the mark that a checkpoint ends with: 1 = A is finished, 2 = B is finished (3 is a format's: Starts)
 abbrev pub markOf : Backup → ℕ
 markOf A = 1
 markOf B = 2

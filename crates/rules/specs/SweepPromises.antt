@@ -7,14 +7,15 @@ use mathlib.Core.List.{List, [], _∷_, _++_}
 use mathlib.Core.Option.{none, some}
 use Prim.Native.Nat.{ℕ, _+_, _*_, _≤_, _<_, min}
 use lib.ListN.{length, getD, set, take, replicate}
+use Rattle.words.specs.Words.{Store}
 use Rattle.rules.specs.declared.State.the-variants.{Clean, Dirty, Hidden, PreHidden, PreDirty}
 use Rattle.rules.specs.TableWords.{wordOf, Says, free, names, neither, says, distinct}
 use Rattle.rules.specs.Board.{Board, sizes, phaseOf, tableOf}
 use Rattle.rules.specs.Numbers.{numberOf, isWriting}
-use Rattle.rules.specs.Power.{Outcome}
+use Rattle.rules.specs.Power.{Outcome, stored}
 use Rattle.rules.specs.Loads.{seen, loadNumber}
 use Rattle.rules.specs.Sweeps.{CleanEntry, lowestClean}
-use Rattle.rules.specs.Calls.{Call, load, peek, store, begin, step, sweep, call}
+use Rattle.rules.specs.Calls.{Call, load, peek, store, begin, step, sweep, plan, call}
 use Rattle.rules.specs.PlainMachine.{Plain}
 use Rattle.rules.specs.Runs.{Event, runs}
 use Rattle.rules.specs.Promises.{NoEntry}
@@ -78,22 +79,28 @@ NoLoadChanges =
     → numberOf (call p board (sweep limit) .number) ≢ 20
     → SameLoads board (call p board (sweep limit) .board)
 
--- ---- the other reading: there an accepted sweep leaves what stores of the blocks' own bytes leave, each accepted with 8 words
+-- ---- the other reading: there a sweep is stores of the blocks' own bytes, one after the other
 
-pub data StoredAgain : Board → List CleanEntry → Board → Type 0 where
-  no-more : {board : Board} → StoredAgain board [] board
-  and-store : {board after : Board} {entry : CleanEntry} {entries : List CleanEntry}
-      → numberOf (call 8 board (store (entry .block) 0 (seen board (entry .block))) .number) ≡ 0
-      → call 8 board (store (entry .block) 0 (seen board (entry .block))) .words ≡ 8
-      → StoredAgain (call 8 board (store (entry .block) 0 (seen board (entry .block))) .board) entries after
-      → StoredAgain board (entry ∷ entries) after
+-- the store that a clean entry is treated as
+abbrev pub ownBytes : Board → CleanEntry → Call
+ownBytes board entry = store (entry .block) 0 (seen board (entry .block))
 
+-- each accepted, with its 8 words; the words of all, and the board after the last
+pub data StoredAgain : Board → List CleanEntry → List Store → Board → Type 0 where
+  no-more : {board : Board} → StoredAgain board [] [] board
+  and-store : {board after : Board} {entry : CleanEntry} {entries : List CleanEntry} {words : List Store}
+      → numberOf (call 8 board (ownBytes board entry) .number) ≡ 0
+      → call 8 board (ownBytes board entry) .words ≡ 8
+      → StoredAgain (call 8 board (ownBytes board entry) .board) entries words after
+      → StoredAgain board (entry ∷ entries) (stored 8 (plan board (ownBytes board entry)) ++ words) after
+
+-- an accepted sweep has just their words, in their order, and leaves what they leave
 unfoldable pub AsStores : Type 0
 AsStores =
     (p limit : ℕ) (board : Board)
     → distinct (tableOf board) ≡ true
     → numberOf (call p board (sweep limit) .number) ≡ 0
-    → StoredAgain board (lowestClean limit (tableOf board)) (call p board (sweep limit) .board)
+    → StoredAgain board (lowestClean limit (tableOf board)) (stored p (plan board (sweep limit))) (call p board (sweep limit) .board)
 
 -- ---- sweep all, begin, finish, sweep all, begin, with no stores between, leaves the table empty
 
@@ -158,17 +165,29 @@ TakenAgain =
     × ((block offset : ℕ) (bytes : List ℕ) → numberOf (loadNumber after block offset (length bytes)) ≡ 0
     → TakesSlot slot after block (call q after (store block offset bytes)))
 
--- ---- after sweep, begin and finish a board that answered FULL takes a new block: from an accepted format or recovery on, one clean entry is enough
+-- ---- after sweep, begin and finish a board that answered FULL takes a new block
 
+-- from an accepted format or recovery on: one clean entry or more swept, a checkpoint begun, and what follows of the calls between
+pub record RoomMade (after : Board) : Type 0 where
+  pub board : Board
+  pub events : List Event
+  pub plain : Plain
+  pub stands : runs events (record { board = board; promise = none }) .promise ≡ some plain
+  pub limit : ℕ
+  pub some-limit : 1 ≤ limit
+  pub some-clean : 1 ≤ cleanIn (tableOf (runs events (record { board = board; promise = none }) .board))
+  pub registers : List ℕ
+  pub finish : List Asked
+  pub between : AllBetween finish
+  pub p₁ : ℕ
+  pub p₂ : ℕ
+  pub done : AllDone (runs events (record { board = board; promise = none }) .board) (asks p₁ (sweep limit) ∷ asks p₂ (begin registers) ∷ finish) after
+
+-- every store in range is accepted then, from a supply of 8 words
 unfoldable pub RoomAgain : Type 0
 RoomAgain =
-    (board : Board) (events : List Event) (plain : Plain) (after : Board) (p₁ p₂ limit : ℕ) (registers : List ℕ) (finish : List Asked)
-    → let run = runs events (record { board = board; promise = none }) in
-    run .promise ≡ some plain
-    → 1 ≤ limit
-    → 1 ≤ cleanIn (tableOf (run .board))
-    → AllBetween finish
-    → AllDone (run .board) (asks p₁ (sweep limit) ∷ asks p₂ (begin registers) ∷ finish) after
+    (after : Board)
+    → RoomMade after
     → (q block offset : ℕ) (bytes : List ℕ)
     → block < sizes after .blocks
     → offset ≤ 63

@@ -5,7 +5,6 @@ use Prim.Native.Nat.{ℕ, suc, _*_}
 use lib.ListN.{take, set}
 use Rattle.words.specs.Words.{Store, blockAt, bytesTo}
 use Rattle.rules.specs.declared.Geometry.{Geometry}
-use Rattle.rules.specs.declared.State.{State}
 use Rattle.rules.specs.declared.State.the-variants.{Clean, Dirty, Hidden, PreHidden, PreDirty}
 use Rattle.rules.specs.declared.Number.{Number}
 use Rattle.rules.specs.declared.Number.the-variants as No

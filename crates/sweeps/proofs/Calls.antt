@@ -1,5 +1,5 @@
 -- Sweep as a call: the number that its checks give, what it knows once accepted, and how it ends.
-use mathlib.Core.Path.{_≡_, refl, sym, ap, _∙_, subst}
+use mathlib.Core.Path.{_≡_, refl, sym, ap, _∙_}
 use mathlib.Core.Logic.{_≢_}
 use mathlib.Core.Bool.{Bool, true, false, not}
 use mathlib.Core.List.{List, [], _∷_, _++_}
@@ -7,19 +7,19 @@ use Prim.Native.Nat.{ℕ, _*_, _≤_, _<_, min}
 use native.Mathlib.Omega.{arith}
 use lib.Dec.{eqb}
 use lib.ListN.{length, take, length-take}
-use Rattle.words.specs.Words.{Store, Lays, lay}
+use Rattle.words.specs.Words.{Lays, lay}
 use Rattle.words.proofs.Laying.{take-most, laid-whole}
 use Rattle.rules.specs.declared.Controller.{Controller}
 use Rattle.rules.specs.declared.Number.{Number}
 use Rattle.rules.specs.declared.Number.the-variants as No
 use Rattle.rules.specs.declared.Answer.{Answer}
 use Rattle.rules.specs.Board.{Board, boardOf}
-use Rattle.rules.specs.Numbers.{numberOf, _⇒_, firstOf, commonChecks, isWriting, wellFormed, allows}
+use Rattle.rules.specs.Numbers.{numberOf, _⇒_, firstOf, commonChecks, isWriting}
 use Rattle.rules.specs.Power.{Outcome, carry, settle, outcomeOf}
 use Rattle.rules.specs.Sweeps as S
 use Rattle.rules.specs.Calls.{call, plan, sweep}
 use Rattle.rules.proofs.Changing.{all-every}
-use Rattle.rules.proofs.Sweeping.{Open, sweep-open, open-lent, open-formed}
+use Rattle.rules.proofs.Sweeping.{sweep-open, open-lent, open-formed}
 use Rattle.rules.proofs.SweepMoves.{copies-count}
 use Rattle.rules.proofs.Checked.{bounds}
 use Rattle.checks.specs.Answers.{offOf, answerOf, refusedOf}

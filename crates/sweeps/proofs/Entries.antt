@@ -3,34 +3,33 @@ use mathlib.Core.Path.{_≡_, refl, sym, ap, _∙_, subst}
 use mathlib.Core.Logic.{_≢_}
 use mathlib.Core.Bool.{Bool, true, false}
 use mathlib.Core.List.{List, [], _∷_, _++_, append-assoc, append-nil}
-use Prim.Native.Nat.{ℕ, zero, suc, _+_, _*_, _-_, _/_, _%_, _≤_, _<_, min}
+use Prim.Native.Nat.{ℕ, zero, suc, _+_, _*_, _-_, _/_, _%_, _≤_, _<_}
 use native.Mathlib.Omega.{arith}
 use native.Mathlib.Nat.{add-zero}
 use native.Mathlib.Numerals.{add-one}
-use lib.Dec.{eqb, ltb}
-use lib.ListN.{length, take, drop, getD, set, length-append, length-take, length-set, take-append-drop}
+use lib.Dec.{ltb}
+use lib.ListN.{length, take, drop, getD, set, length-append, length-take, take-append-drop}
 use lib.Seq.{take-all, take-suc, take-append-add, getD-set-other}
-use borrow.Author.Tests.{eqb-true, eqb-false, eq-eqb, ne-eqb, ltb-true, ltb-false}
+use borrow.Author.Tests.{eqb-true, eqb-false, ne-eqb, ltb-true, ltb-false}
 use Rattle.words.specs.Words.{Store, Lays, lay, bytesTo, blockAt}
-use Rattle.words.proofs.All.{All, done, also, all-append, all-map, all-take}
+use Rattle.words.proofs.All.{All, done, also, all-append, all-take}
 use Rattle.words.proofs.Laying.{lays-then}
 use Rattle.words.proofs.Lists.{Fit}
 use Rattle.words.proofs.Makers.{Laid}
 use Rattle.words.proofs.Blocks.{Clear, clear-in, block-clear, block-stores, length-block}
 use Rattle.rules.specs.declared.Geometry.{Geometry}
 use Rattle.rules.specs.declared.Phase.the-variants.{Running}
-use Rattle.rules.specs.declared.State.{State}
-use Rattle.rules.specs.declared.State.the-variants.{Clean, Dirty, Hidden, PreHidden, PreDirty}
+use Rattle.rules.specs.declared.State.the-variants.{Clean, Hidden}
 use Rattle.rules.specs.Geometry.{homeBlock, checkpointBlock, memoryWords}
-use Rattle.rules.specs.TableWords.{wordOf, Says, free, names, neither, says, every}
-use Rattle.rules.specs.Numbers.{wellFormed, wellSaid, allows}
+use Rattle.rules.specs.TableWords.{wordOf, Says, names, says}
+use Rattle.rules.specs.Numbers.{wellFormed, allows}
 use Rattle.rules.specs.Sweeps.{CleanEntry, cleanBy, cleanFrom, homeCopies, hidden}
 use Rattle.rules.specs.SweepPromises.{oneIfClean}
 use Rattle.rules.proofs.TableWordLaws.{coded, code-named}
 use Rattle.rules.proofs.Checked.{formed-names}
 use Rattle.rules.proofs.SweepMoves.{PassedOver, CleanOrNot, is-clean, is-not, clean-or-not}
 use Rattle.checks.specs.Tables.{Skipped, Next}
-use Rattle.sweeps.specs.Entries.{isClean, Sweepable}
+use Rattle.sweeps.specs.Entries.{isClean}
 
 -- ---- one word
 

@@ -1,6 +1,5 @@
 -- A walk from clean entry to clean entry: what stands when the entries below a slot are met.
 use mathlib.Core.Path.{_≡_, refl, sym, ap, _∙_, subst}
-use mathlib.Core.Bool.{Bool}
 use mathlib.Core.List.{List, [], _∷_, _++_}
 use Prim.Native.Nat.{ℕ, _+_, _*_, _-_, _/_, _≤_, _<_}
 use native.Mathlib.Omega.{arith}
@@ -11,9 +10,8 @@ use Rattle.words.proofs.All.{All, all-take}
 use Rattle.words.proofs.Laying.{lays-nothing}
 use Rattle.rules.specs.declared.Geometry.{Geometry}
 use Rattle.rules.specs.declared.Phase.the-variants.{Running}
-use Rattle.rules.specs.declared.State.the-variants.{Clean, Hidden}
+use Rattle.rules.specs.declared.State.the-variants.{Clean}
 use Rattle.rules.specs.Geometry.{homeBlock, checkpointBlock}
-use Rattle.rules.specs.TableWords.{wordOf}
 use Rattle.rules.specs.Numbers.{wellFormed, allows}
 use Rattle.rules.specs.Sweeps.{CleanEntry, cleanFrom, homeCopies, hidden}
 use Rattle.rules.proofs.Checked.{formed-names}

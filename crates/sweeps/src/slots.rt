@@ -1,6 +1,6 @@
 // The copies of a sweep, clean entry by clean entry, and the entries made hidden (document 02, No. 7).
 ghost use mathlib.Core.Path.{_≡_};
-ghost use Prim.Native.Nat.{ℕ, _*_, _/_, _≤_, _<_};
+ghost use Prim.Native.Nat.{_*_, _/_, _≤_, _<_};
 ghost use lib.ListN.{length, take};
 ghost use Rattle.words.specs.Words.{Lays, blockAt, bytesTo, lay};
 ghost use Rattle.rules.specs.Geometry.{homeBlock, checkpointBlock, memoryWords};

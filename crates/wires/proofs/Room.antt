@@ -9,6 +9,6 @@ use Rattle.wires.specs.Promises.{RoomForWire}
 
 pub room-for-wire : RoomForWire
 unfolding RoomForWire RoomAgain
-room-for-wire board events plain after p₁ p₂ limit registers finish stands some-limit some-clean between done q w wire below supply =
-    room-again board events plain after p₁ p₂ limit registers finish stands some-limit some-clean between done q w 0 _ below (omega arith)
+room-for-wire after made q w wire below supply =
+    room-again after made q w 0 _ below (omega arith)
     (λ none. suc-ne-zero 63 (sym (written-whole wire) ∙ none)) (omega (arith, written-whole wire)) supply

@@ -7,13 +7,13 @@ use mathlib.Core.Option.{none, some}
 use Prim.Native.Nat.{ℕ, _≤_, _<_}
 use Rattle.words.specs.Words.{lay}
 use Rattle.rules.specs.declared.Geometry.{Geometry}
-use Rattle.rules.specs.Board.{Board, Volatile, sizes, phaseOf, tableOf}
+use Rattle.rules.specs.Board.{Board, Volatile, sizes, phaseOf}
 use Rattle.rules.specs.Numbers.{numberOf, isOff}
 use Rattle.rules.specs.Power.{stored}
 use Rattle.rules.specs.Calls.{Call, load, peek, store, begin, step, recover, sweep, plan, call}
 use Rattle.rules.specs.PlainMachine.{Picture, Plain, hasMark, note}
 use Rattle.rules.specs.Runs.{Event, does, Run, doing, runs, Lengths, NoFormat, FromFormat, runFrom, NoneFinished}
-use Rattle.rules.specs.SweepPromises.{cleanIn, Asked, AllDone, AllBetween, asks}
+use Rattle.rules.specs.SweepPromises.{RoomMade}
 use Rattle.records.specs.declared.Wire.{Wire}
 use Rattle.records.specs.declared.Found.the-variants.{Says}
 use Rattle.wires.specs.declared.Reading.{Reading}
@@ -150,16 +150,11 @@ AsBegun =
 -- ---- room for a new wire (document 02, No. 7)
 
 -- While quiet wires sit in clean entries a board may answer FULL. With one of them it takes the new wire after sweep, begin and finish,
--- each accepted, from a supply of 8 words.
+-- from a supply of 8 words.
 unfoldable pub RoomForWire : Type 0
 RoomForWire =
-    (board : Board) (events : List Event) (plain : Plain) (after : Board) (p₁ p₂ limit : ℕ) (registers : List ℕ) (finish : List Asked)
-    → let run = runs events (record { board = board; promise = none }) in
-    run .promise ≡ some plain
-    → 1 ≤ limit
-    → 1 ≤ cleanIn (tableOf (run .board))
-    → AllBetween finish
-    → AllDone (run .board) (asks p₁ (sweep limit) ∷ asks p₂ (begin registers) ∷ finish) after
+    (after : Board)
+    → RoomMade after
     → (q w : ℕ) (wire : Wire)
     → w < sizes after .blocks
     → 8 ≤ q

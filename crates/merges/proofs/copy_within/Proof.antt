@@ -3,7 +3,7 @@ use Prim.Native.Nat.{_+_, _*_, _-_, _≤_, min}
 use native.Mathlib.Omega.{arith}
 use lib.ListN.{length, take}
 use denote.Ref.{now}
-use Rattle.words.specs.Words.{word, put, lay, blockAt, bytesTo}
+use Rattle.words.specs.Words.{put, lay, blockAt, bytesTo}
 use Rattle.words.proofs.Blocks.{length-block}
 use Rattle.merges.proofs.Building.{built-length, built-more, built-all, built-read}
 use borrow.Author.Needs.{needs}

@@ -9,7 +9,7 @@ use denote.Ref.{now}
 use Rattle.rules.specs.declared.Geometry.{Geometry}
 use Rattle.rules.specs.declared.State.{State}
 use Rattle.rules.specs.TableWords.{every}
-use Rattle.rules.specs.Numbers.{wellFormed, allows}
+use Rattle.rules.specs.Numbers.{wellFormed}
 use Rattle.rules.specs.Sweeps.{cleanFrom}
 use Rattle.checks.specs.Tables.{allowedWhile}
 use Rattle.checks.specs.Forms.{marginOf, allFormed}

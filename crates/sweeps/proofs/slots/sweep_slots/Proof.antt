@@ -1,14 +1,11 @@
 use mathlib.Core.Path.{_≡_, refl, sym, ap, _∙_, subst}
 use mathlib.Core.List.{List}
-use Prim.Native.Nat.{ℕ, _+_, _*_, _-_, _/_, _≤_, _<_}
+use Prim.Native.Nat.{ℕ, _*_, _-_, _/_, _<_}
 use native.Mathlib.Omega.{arith}
-use lib.ListN.{length, getD, set, length-set}
-use lib.Seq.{take-all}
+use lib.ListN.{length, length-set}
 use denote.Ref.{now}
-use Rattle.words.specs.Words.{Store, Lays, lay}
-use Rattle.checks.specs.Tables.{Next}
+use Rattle.words.specs.Words.{lay}
 use Rattle.rules.specs.Sweeps.{CleanEntry, cleanFrom, homeCopies, hidden}
-use Rattle.sweeps.specs.Entries.{isClean}
 use Rattle.sweeps.proofs.Entries.{met, block-enough}
 use Rattle.sweeps.proofs.Walks.{word-still, next-still, Walked, walk-starts, walk-finds, walk-block, walk-more, hidden-more, walk-ends, walk-whole}
 use borrow.Author.Needs.{needs}
