@@ -10,7 +10,7 @@ use Rattle.words.specs.Words.{Store, lay, number}
 use Rattle.rules.specs.declared.Geometry.{Geometry}
 use Rattle.rules.specs.declared.Backup.{Backup}
 use Rattle.rules.specs.declared.Number.the-variants as No
-use Rattle.rules.specs.Board.{Board, Volatile, sizes}
+use Rattle.rules.specs.Board.{Board, Volatile, sizes, tableOf}
 use Rattle.rules.specs.Numbers.{numberOf, _⇒_}
 use Rattle.rules.specs.Power.{Outcome, stored}
 use Rattle.rules.specs.Starts.{finishedIn, noCheckpoint, unsound, recoverNumber, recoverFrom, recoverPlan}
@@ -18,13 +18,15 @@ use Rattle.rules.specs.Calls.{Call, load, peek, store, begin, step, form
 use Rattle.rules.specs.PlainMachine.{Plain, formatted, opened}
 use Rattle.rules.specs.Runs.{stop, Event, does, Run, afterFormat, fromNone, fromSome, promised, doing, unlessRefused, stopping, advance, runs, NoFormat, a-load, a-peek, a-store, a-begin, a-step, a-recover, a-sweep}
 use Rattle.rules.specs.Promises.{Demand2}
+use Rattle.rules.specs.SweepPromises.{NeverTwice}
 use Rattle.rules.proofs.Clashes.{none-some}
+use Rattle.rules.proofs.Apart.{apart-distinct}
 use Rattle.rules.proofs.Changing.{found}
 use Rattle.rules.proofs.Checked.{sizes-passed, Lent}
 use Rattle.rules.proofs.Invariant.{Inv, settled}
 use Rattle.rules.proofs.Answers.{refused, guard-accepted}
 use Rattle.rules.proofs.Started.{format-inv, opened-inv}
-use Rattle.rules.proofs.LiveShown.{inv-shows}
+use Rattle.rules.proofs.LiveShown.{inv-apart, inv-shows}
 use Rattle.rules.proofs.Demand3.{call-keeps, noted, lost, stop-recovers, back, noted-back, stop-inv}
 
 -- nothing is promised, or the board looks like the plain machine
@@ -158,3 +160,10 @@ run-inv board events plain e = go (run .promise) (runs-stand events (record { bo
 pub demand-2 : Demand2
 unfolding Demand2
 demand-2 board events plain e = inv-shows (runs events (record { board = board; promise = none }) .board) plain (run-inv board events plain e)
+
+-- no call makes a table that names a block twice, nor does a recovery that is accepted
+pub never-twice : NeverTwice
+unfolding NeverTwice
+never-twice board events plain e awake =
+    let run = runs events (record { board = board; promise = none }) in
+    apart-distinct (tableOf (run .board)) (inv-apart (run .board) plain (run-inv board events plain e) awake)

@@ -17,7 +17,7 @@ use Rattle.words.proofs.Rising.{Below}
 use Rattle.words.proofs.Makers.{Laid}
 use Rattle.rules.specs.declared.Geometry.{Geometry}
 use Rattle.rules.specs.declared.Phase.{Phase}
-use Rattle.rules.specs.declared.Phase.the-variants.{Running, Writing, Off}
+use Rattle.rules.specs.declared.Phase.the-variants.{Running}
 use Rattle.rules.specs.declared.State.the-variants.{Clean, Hidden}
 use Rattle.rules.specs.declared.Lookup.the-variants.{Entry}
 use Rattle.rules.specs.Geometry.{homeBlock, checkpointBlock, markStart}
@@ -29,13 +29,12 @@ use Rattle.rules.specs.Loads.{seen}
 use Rattle.rules.specs.Sweeps.{CleanEntry, lowestClean, homeCopies, hidden, sweepNumber, sweepPlan}
 use Rattle.rules.specs.Calls.{store, sweep}
 use Rattle.rules.specs.PlainMachine.{Plain, laidOver, overlaid, update, did, hasMark}
-use Rattle.rules.proofs.Clashes.{false-true}
 use Rattle.rules.proofs.Finding.{Finds}
-use Rattle.rules.proofs.Apart.{Apart, apart-finds}
+use Rattle.rules.proofs.Apart.{apart-finds}
 use Rattle.rules.proofs.Checked.{lent-exact}
 use Rattle.rules.proofs.Invariant.{Mode, is-running, is-writing, is-off, Inv, Keeps, k-carry, did-not, no-mark, note-unmarked, guarded, stopped}
 use Rattle.rules.proofs.KeepsStore.{store-keeps}
-use Rattle.rules.proofs.LiveShown.{live-shown, awake-passed}
+use Rattle.rules.proofs.LiveShown.{live-shown, inv-apart, awake-passed}
 use Rattle.rules.proofs.Sweeping.{Waiting, and-above, waiting-set, lowest-waiting, Open, sweep-open, swept-block, sweptOnce, sweptAll, update-itself, copy-laid, as-store, reads-on, first-then}
 
 -- ---- the plain machine: a store of unchanged bytes changes no block
@@ -95,14 +94,6 @@ running-open board plain v ph =
       common = record { fine = v .fine; exact = rw (lent-exact (sizes board) board (v .lent)); count = a .0; awake = awake; formed = a .1 };
       running = ph;
     }
-
-running-apart : (board : Board) (plain : Plain) (v : Inv board plain) → phaseOf board ≡ Running → Apart (tableOf board)
-running-apart board plain v ph = go (phaseOf board) ph (v .mode)
-  where
-    go : (phase : Phase) → phase ≡ Running → Mode board plain (v .keeps) phase → Apart (tableOf board)
-    go Running e (is-running be sh) = sh .apart
-    go (Writing count) e (is-writing sh dr) = sh .apart
-    go Off e m = absurd (false-true (ap isOff (sym e)))
 
 module _ (board : Board) (plain : Plain) (v : Inv board plain) (ph : phaseOf board ≡ Running) (slot block : ℕ)
     (found : Finds block (tableOf board) (Entry slot Clean)) (below : block < sizes board .blocks) where
@@ -198,7 +189,7 @@ unfolding homeCopies hidden lay
 swept [] board plain v ph w = record { whole = v; halt = λ p. stopped v [] done done p; unmarked = done }
 swept (entry ∷ entries) board plain v ph (and-above a b c w) =
     let below = swept-block (running-open board plain v ph) (entry .slot) (entry .block) b c in
-    let found = apart-finds (entry .block) (entry .slot) Clean (running-apart board plain v ph) b c in
+    let found = apart-finds (entry .block) (entry .slot) Clean (inv-apart board plain v (ap isOff ph)) b c in
     let next = once board plain v ph (entry .slot) (entry .block) found below .whole in
     one-more board plain v ph (entry .slot) (entry .block) found below entries
     (swept entries (sweptOnce board (entry .slot) (entry .block)) plain next ph (waiting-set (entry .slot) (wordOf (entry .block) Hidden) (omega arith) w))

@@ -26,6 +26,7 @@ use Rattle.rules.specs.Calls.{load, peek, plan, call}
 use Rattle.rules.specs.PlainMachine.{Plain}
 use Rattle.rules.specs.Promises.{Shows}
 use Rattle.rules.proofs.Clashes.{false-true}
+use Rattle.rules.proofs.Apart.{Apart}
 use Rattle.rules.proofs.Changing.{all-every}
 use Rattle.rules.proofs.Saving.{saved-lt, kept-length}
 use Rattle.rules.proofs.KeepsStore.{seen-length}
@@ -41,6 +42,15 @@ live-shown board plain v block h awake = go (phaseOf board) awake (v .mode)
     go : (phase : Phase) → isOff phase ≡ false → Mode board plain (v .keeps) phase → seen board block ≡ plain .live block
     go Running e (is-running be sh) = sh .shows block h
     go (Writing count) e (is-writing sh dr) = sh .shows block h
+    go Off e m = absurd (false-true (sym e))
+
+-- and the table names no block twice
+pub inv-apart : (board : Board) (plain : Plain) (v : Inv board plain) → isOff (phaseOf board) ≡ false → Apart (tableOf board)
+inv-apart board plain v awake = go (phaseOf board) awake (v .mode)
+  where
+    go : (phase : Phase) → isOff phase ≡ false → Mode board plain (v .keeps) phase → Apart (tableOf board)
+    go Running e (is-running be sh) = sh .apart
+    go (Writing count) e (is-writing sh dr) = sh .apart
     go Off e m = absurd (false-true (sym e))
 
 pub inv-shows : (board : Board) (plain : Plain) → Inv board plain → Shows board plain

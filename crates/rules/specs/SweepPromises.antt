@@ -11,7 +11,7 @@ use Rattle.words.specs.Words.{Store}
 use Rattle.rules.specs.declared.State.the-variants.{Clean, Dirty, Hidden, PreHidden, PreDirty}
 use Rattle.rules.specs.TableWords.{wordOf, Says, free, names, neither, says, distinct}
 use Rattle.rules.specs.Board.{Board, sizes, phaseOf, tableOf}
-use Rattle.rules.specs.Numbers.{numberOf, isWriting}
+use Rattle.rules.specs.Numbers.{numberOf, isOff, isWriting}
 use Rattle.rules.specs.Power.{Outcome, stored}
 use Rattle.rules.specs.Loads.{seen, loadNumber}
 use Rattle.rules.specs.Sweeps.{CleanEntry, lowestClean}
@@ -78,6 +78,15 @@ NoLoadChanges =
     → distinct (tableOf board) ≡ true
     → numberOf (call p board (sweep limit) .number) ≢ 20
     → SameLoads board (call p board (sweep limit) .board)
+
+-- from an accepted format or recovery on no other table is met
+unfoldable pub NeverTwice : Type 0
+NeverTwice =
+    (board : Board) (events : List Event) (plain : Plain)
+    → let run = runs events (record { board = board; promise = none }) in
+    run .promise ≡ some plain
+    → isOff (phaseOf (run .board)) ≡ false
+    → distinct (tableOf (run .board)) ≡ true
 
 -- ---- the other reading: there a sweep is stores of the blocks' own bytes, one after the other
 
