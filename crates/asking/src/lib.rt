@@ -1,11 +1,13 @@
 // What a field asks for, by its tag and its value (document 01, The bench trace).
+#![tactic(auto)]
+
 ghost use Rattle.std.specs.Prelude.{◌≡◌, ◌+◌, ◌≤◌, length, drop};
 ghost use Rattle.asking.specs.Asking.{number_at, asked_format, asked_store, asked_load, asked_begin, asked_step, asked_allow, asked_recover, asked};
 
 use fields::short_of;
 use rules::Geometry;
 
-#[derive(Drop)]
+#[derive(Clone, Copy)]
 pub enum Asked {
     // the sizes and the fill byte
     Format(Geometry, u8),

@@ -1,5 +1,7 @@
 // A backup read: which one the mark calls finished, whether its table is sound, its table, and its registers or their absence
 // (document 01, Checkpoints; document 02, No. 2).
+#![tactic(auto)]
+
 ghost use Rattle.std.specs.Prelude.{◌≡◌, cond, List, [], ℕ, ◌+◌, ◌*◌, ◌≤◌, length};
 ghost use Rattle.std.proofs.Math.Option.{none, some};
 ghost use Rattle.words.specs.Words.{numbers, words};
@@ -18,7 +20,7 @@ use words::{copy_part, number_at};
 mod sets;
 
 // What a mark says.
-#[derive(Drop)]
+#[derive(Clone, Copy)]
 pub enum Marked {
     Finished(Backup),
     Nothing,

@@ -1,4 +1,6 @@
 // Many traces in one input: frames of a 4-byte big-endian length and a trace, each run on a fresh board, a line `.` after each.
+#![tactic(auto)]
+
 ghost use Rattle.std.specs.Prelude.{◌<◌};
 
 use libc::{STDIN_FILENO, STDOUT_FILENO};

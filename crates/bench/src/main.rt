@@ -1,4 +1,6 @@
 // The trace program: a board in its own arrays, all zero at the start, and a trace from standard input (document 01, The bench trace).
+#![tactic(auto)]
+
 fn main() {
     let mut memory = [0u8; 5512];
     let mut cache = [0u8; 1024];

@@ -1,4 +1,6 @@
 // The visible block: as a part of the lent memory or CACHE, and copied from it (document 01, Where a block shows).
+#![tactic(auto)]
+
 ghost use Rattle.std.specs.Prelude.{◌≡◌, ◌+◌, ◌*◌, ◌≤◌, ◌<◌, length, take, drop};
 ghost use Rattle.words.specs.Words.{block_at};
 ghost use Rattle.rules.specs.Geometry.{memory_words, home_block, checkpoint_block};

@@ -1,4 +1,6 @@
 // The board for a panel's host: the calls of document 01 and the types that they take and give. Nothing here has a `requires`.
+#![tactic(auto)]
+
 pub use checkpoints::{begin, step};
 pub use loads::{load, peek, peek_number};
 pub use rules::{Answer, Backup, Controller, Geometry, Number, Phase, Recovery, Registers};

@@ -1,4 +1,6 @@
 // The calls that make a checkpoint: begin and step (document 01, Checkpoints).
+#![tactic(auto)]
+
 ghost use Rattle.std.specs.Prelude.{◌≡◌};
 ghost use Rattle.rules.specs.Board.{board_of};
 ghost use Rattle.rules.specs.Power.{outcome_of};

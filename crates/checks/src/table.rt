@@ -7,7 +7,7 @@ ghost use Rattle.checks.specs.Tables.{Formed, slot_of};
 use super::slots::slot_of;
 use rules::{Lookup, State};
 
-#[derive(Drop)]
+#[derive(Clone, Copy)]
 pub enum FreeSlot {
     At(usize),
     Nothing,
@@ -71,7 +71,7 @@ pub fn lowest_free(table: &[u64]) -> FreeSlot
 }
 
 // What a store needs of the table: its block's entry, and its slot, that of the entry or else the lowest free one.
-#[derive(Drop)]
+#[derive(Clone, Copy)]
 pub struct Seat {
     pub found: Lookup,
     pub slot: FreeSlot,

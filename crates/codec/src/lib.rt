@@ -1,4 +1,6 @@
 // The controller record as 90 bytes of house fields (document 02, No. 4).
+#![tactic(auto)]
+
 ghost use Rattle.std.specs.Prelude.{◌≡◌, [], ◌∷◌, ℕ, ◌+◌, ◌≤◌, ◌<◌, length, take, drop, get_or};
 ghost use Rattle.rules.specs.Checkpoints.{count_of};
 ghost use Rattle.lines.specs.Puts.{Puts};

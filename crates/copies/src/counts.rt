@@ -12,14 +12,14 @@ use checks::numbers::{accepted, early_number, is_writing};
 use rules::{Controller, Geometry, Number, Phase};
 
 // Whether the table is well formed and, if so, how many words begin copies by it.
-#[derive(Drop)]
+#[derive(Clone, Copy)]
 pub struct Walked {
     pub formed: bool,
     pub words: usize,
 }
 
 // The number of the checks 1 to 5, and the length of begin's list, of no use where the number refuses.
-#[derive(Drop)]
+#[derive(Clone, Copy)]
 pub struct Counted {
     pub number: Number,
     pub words: usize,

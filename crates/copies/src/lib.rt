@@ -1,4 +1,6 @@
 // What begin does slot by slot: the copies from CACHE, and the table's words changed (document 01, Checkpoints).
+#![tactic(auto)]
+
 ghost use Rattle.std.specs.Prelude.{◌≡◌, true, List, map, ℕ, ◌+◌, ◌*◌, ◌≤◌, length};
 ghost use Rattle.words.specs.Words.{Lays, bytes_to, block_at, lay};
 ghost use Rattle.rules.specs.declared.Geometry as G;
@@ -28,7 +30,7 @@ pub fn begun_word(word: u64) -> u64
     }
 }
 
-#[derive(Drop)]
+#[derive(Clone, Copy)]
 pub enum Target {
     Block(usize),
     Nothing,

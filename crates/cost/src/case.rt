@@ -5,7 +5,7 @@ use fields::number2;
 use rules::{Backup, Controller, Geometry, Phase};
 use words::least;
 
-#[derive(Drop)]
+#[derive(Clone, Copy)]
 pub struct Case {
     pub call: u8,
     // the state codes of the entries: of every slot, and of the last

@@ -1,4 +1,6 @@
 // Repeats one call on a prepared board, so that the instructions of a call can be counted as a difference. tests/cost/measure says how.
+#![tactic(auto)]
+
 use board::{Answer, Recovery, begin, format, load, recover, step, store, sweep};
 use case::Case;
 use checks::numbers::number_of;
@@ -9,7 +11,7 @@ use words::least;
 mod case;
 
 // What a call gave: its number and the words it stored.
-#[derive(Drop)]
+#[derive(Clone, Copy)]
 struct Given {
     number: Number,
     words: usize,

@@ -1,4 +1,6 @@
 // The board for a C host: six calls on plain numbers and byte slices (document 02, No. 4). No door has a `requires`; include/rostimely.h says what no callee can check.
+#![tactic(auto)]
+
 ghost use Rattle.std.specs.Prelude.{◌≡◌, cond, not, ℕ, length};
 ghost use Rattle.rules.specs.Numbers.{number_of};
 ghost use Rattle.rules.specs.Calls as C;
@@ -17,7 +19,7 @@ mod early;
 
 // What a call tells C: the number returned, and the words stored.
 #[repr(C)]
-#[derive(Drop)]
+#[derive(Clone, Copy)]
 pub struct RostimelyAnswer {
     pub number: u64,
     pub words: u64,
@@ -25,7 +27,7 @@ pub struct RostimelyAnswer {
 
 // What a recovery tells C: also whether there are registers, 1 or 0.
 #[repr(C)]
-#[derive(Drop)]
+#[derive(Clone, Copy)]
 pub struct RostimelyRecovery {
     pub number: u64,
     pub words: u64,

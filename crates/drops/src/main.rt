@@ -1,4 +1,6 @@
 // The supply drops while the board is saving: what does the circuit read when it returns? Each field of a bench trace is stopped after every number of its words.
+#![tactic(auto)]
+
 ghost use Rattle.std.specs.Prelude.{◌≡◌, ◌≤◌, true, length};
 
 use asking::{Asked, parse};
@@ -17,7 +19,7 @@ mod report;
 mod stops;
 
 // What a field leaves: whether the run goes on, and what the program holds.
-#[derive(Drop)]
+#[derive(Clone, Copy)]
 struct Rest {
     go: bool,
     panel: Panel,

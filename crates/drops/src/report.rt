@@ -4,7 +4,7 @@ use asking::Asked;
 use libc::STDOUT_FILENO;
 
 // Stops in a row with the same outcome; `wrong` counts all that deviate so far.
-#[derive(Drop)]
+#[derive(Clone, Copy)]
 pub struct Run {
     pub came: Came,
     pub count: u64,

@@ -8,7 +8,7 @@ use rules::{Answer, Backup, Controller, Geometry, Number, Phase, Recovery, Regis
 use trace::Allowance;
 
 // What comes back after a stop.
-#[derive(Drop)]
+#[derive(Clone, Copy)]
 pub enum Came {
     Kept,
     Draft,
@@ -19,14 +19,14 @@ pub enum Came {
 }
 
 // The registers that a recovery has to give, or their absence; the record's bytes are 0 then.
-#[derive(Drop)]
+#[derive(Clone, Copy)]
 pub struct Wanted {
     pub exist: Registers,
     pub bytes: [u8; 64],
 }
 
 // The last finished checkpoint beside its blocks; `there` is false where no checkpoint is finished.
-#[derive(Drop)]
+#[derive(Clone, Copy)]
 pub struct Saved {
     pub sizes: Geometry,
     pub registers: Wanted,
@@ -34,7 +34,7 @@ pub struct Saved {
 }
 
 // What the program holds beside its arrays: the bench's record and allowance, the last finished checkpoint, the registers of the one on its way, and the counts.
-#[derive(Drop)]
+#[derive(Clone, Copy)]
 pub struct Panel {
     pub controller: Controller,
     pub allowance: Allowance,
@@ -45,7 +45,7 @@ pub struct Panel {
 }
 
 // A field's call when nothing stops it: the length of its list, and whether it leaves the board Running.
-#[derive(Drop)]
+#[derive(Clone, Copy)]
 pub struct Plan {
     pub asked: Asked,
     pub accepted: bool,

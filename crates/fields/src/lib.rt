@@ -1,4 +1,6 @@
 // House fields read from a slice and put in one: one-byte tag, two-byte length, value; numbers big-endian.
+#![tactic(auto)]
+
 ghost use Rattle.std.specs.Prelude.{◌≡◌, [], ◌∷◌, ◌+◌, ◌≤◌, ◌<◌, length, take, drop};
 ghost use Rattle.lines.specs.Puts.{Puts};
 ghost use Rattle.fields.specs.Fields.{big_endian, big_number, field};

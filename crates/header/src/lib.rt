@@ -1,4 +1,6 @@
 // The calls of the new stored form: the board's sizes in two words after the mark (document 02, No. 6). None has a `requires`.
+#![tactic(auto)]
+
 ghost use Rattle.std.specs.Prelude.{◌≡◌, ℕ};
 ghost use Rattle.rules.specs.Board.{board_of};
 ghost use Rattle.rules.specs.Power.{outcome_of};

@@ -1,4 +1,6 @@
 // The board's calls with the controller record lent: each finds it and leaves it updated (document 02, No. 4 and No. 7).
+#![tactic(auto)]
+
 ghost use Rattle.std.specs.Prelude.{◌≡◌, ℕ};
 ghost use Rattle.rules.specs.Board.{board_of};
 ghost use Rattle.rules.specs.Power.{outcome_of};
@@ -9,14 +11,14 @@ ghost use Rattle.inner.specs.Replies.{answered, recovered};
 use rules::{Answer, Controller, Geometry, Number, Recovery, Registers};
 
 // What an answer says beside the record.
-#[derive(Drop)]
+#[derive(Clone, Copy)]
 pub struct Reply {
     pub number: Number,
     pub words: usize,
 }
 
 // What a recovery says beside the record.
-#[derive(Drop)]
+#[derive(Clone, Copy)]
 pub struct Regained {
     pub number: Number,
     pub words: usize,

@@ -1,4 +1,6 @@
 // The calls on the part of the bench's arrays that a board of some sizes is lent (document 01, The bench trace).
+#![tactic(auto)]
+
 ghost use Rattle.std.specs.Prelude.{◌≡◌, ◌≤◌, length};
 ghost use Rattle.rules.specs.Board.{board_of};
 ghost use Rattle.rules.specs.Power.{outcome_of};

@@ -1,4 +1,6 @@
 // Bytes put at a place of a lent slice: as they are, a number in decimal, bytes in hex. Each function returns the place after them.
+#![tactic(auto)]
+
 ghost use Rattle.std.specs.Prelude.{◌≡◌, [], ◌∷◌, ◌+◌, ◌*◌, ◌≤◌, ◌<◌, length};
 ghost use Rattle.lines.specs.Puts.{Puts};
 ghost use Rattle.lines.specs.Lines.{decimal, hex_digit, hex_byte, hex_bytes};

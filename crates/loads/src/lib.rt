@@ -1,4 +1,6 @@
 // Load, peek and peek's number (document 01, Where a block shows; Numbers returned).
+#![tactic(auto)]
+
 ghost use Rattle.std.specs.Prelude.{◌≡◌};
 ghost use Rattle.rules.specs.Board.{Board, sizes, board_of};
 ghost use Rattle.rules.specs.Numbers.{no_block, out_of_range};

@@ -1,4 +1,6 @@
 // The new block of a store, built at its destination word by word (document 01, Stores; document 02, No. 3 and No. 5).
+#![tactic(auto)]
+
 ghost use Rattle.std.specs.Prelude.{◌≡◌, List, ℕ, ◌+◌, ◌*◌, ◌-◌, ◌≤◌, ◌<◌, length, take, drop};
 ghost use Rattle.words.specs.Words.{word, put, block_at, bytes_to, Lays};
 ghost use Rattle.rules.specs.Stores.{replaced, window_to};

@@ -1,4 +1,6 @@
 // The table of stores: where the new block goes, whether all its words are stored, and what becomes of its entry (document 01, Stores; document 02, No. 5).
+#![tactic(auto)]
+
 ghost use Rattle.std.specs.Prelude.{◌≡◌, ℕ};
 ghost use Rattle.rules.specs.declared.Lookup.TheVariants as L;
 ghost use Rattle.rules.specs.declared.Phase.TheVariants as P;
@@ -9,7 +11,7 @@ use rules::{Lookup, Phase, Place, State};
 
 pub mod windows;
 
-#[derive(Drop)]
+#[derive(Clone, Copy)]
 pub enum Move {
     // where all 64 bytes go, and the entry's state after
     To(Place, State),

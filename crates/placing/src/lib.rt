@@ -1,4 +1,6 @@
 // The new block of a store built at its place, and its entry in the table (document 01, Stores; Power).
+#![tactic(auto)]
+
 ghost use Rattle.std.specs.Prelude.{◌≡◌, true, List, ℕ, ◌+◌, ◌*◌, ◌≤◌, ◌<◌, length, set};
 ghost use Rattle.words.specs.Words.{Lays, block_at, bytes_to};
 ghost use Rattle.rules.specs.Board.{board_of};
@@ -25,7 +27,7 @@ use moves::windows::{all_words, touched};
 use rules::{Answer, Controller, Geometry, Lookup, Number, Place};
 
 // The 64 bytes of a place: a block of the memory, or of CACHE.
-#[derive(Drop)]
+#[derive(Clone, Copy)]
 pub enum Spot {
     Memory(usize),
     Cache(usize),

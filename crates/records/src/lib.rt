@@ -1,4 +1,6 @@
 // A wire's record as the bytes of a block: laid, and recognized as the encoding that it is (document 02, No. 1).
+#![tactic(auto)]
+
 ghost use Rattle.std.specs.Prelude.{◌≡◌, true, ◌↔◌, ◌+◌, ◌≤◌, length};
 ghost use Rattle.fields.specs.Fields.{field, fields_of};
 ghost use Rattle.lines.specs.Puts.{Puts};
@@ -13,7 +15,7 @@ use words::same_bytes;
 pub mod classes;
 
 // What a wire's record tells. The types admit no latch or test but 0 and 1.
-#[derive(Drop)]
+#[derive(Clone, Copy)]
 pub struct Wire {
     // in hundredths of a milliampere
     pub current: u16,
@@ -22,21 +24,21 @@ pub struct Wire {
 }
 
 // Tag 3 of a record.
-#[derive(Drop)]
+#[derive(Clone, Copy)]
 pub enum Tested {
     Missing,
     Is(bool),
 }
 
 // A record's fields, as they stand in a block.
-#[derive(Drop)]
+#[derive(Clone, Copy)]
 pub struct Record {
     pub current: u16,
     pub latch: bool,
     pub test: Tested,
 }
 
-#[derive(Drop)]
+#[derive(Clone, Copy)]
 pub enum Class {
     Break,
     Weak,
@@ -46,7 +48,7 @@ pub enum Class {
 }
 
 // What a block reads as.
-#[derive(Drop)]
+#[derive(Clone, Copy)]
 pub enum Found {
     Says { wire: Wire, class: Class },
     NoRecord,

@@ -2,7 +2,7 @@
 use crate::panel::Call;
 
 // What a recovery gives.
-#[derive(Drop)]
+#[derive(Clone, Copy)]
 pub enum Came {
     // the last finished checkpoint from before the call
     Before,

@@ -4,7 +4,7 @@ use checks::numbers::accepted;
 use rules::{Controller, Registers};
 use words::same_bytes;
 
-#[derive(Drop)]
+#[derive(Clone, Copy)]
 pub struct Image {
     pub blocks: [u8; 192],
     pub exist: Registers,

@@ -1,4 +1,6 @@
 // A board is moved between the stored forms, or formatted in the new one, and the supply stops: what does each form read when it returns? Every stop is tried.
+#![tactic(auto)]
+
 use boards::{off, running, stored_board, with_other_sizes, writing};
 use expected::list_words;
 use images::{Image, image_of};
@@ -14,7 +16,7 @@ mod panel;
 mod report;
 mod stops;
 
-#[derive(Drop)]
+#[derive(Clone, Copy)]
 struct Tally {
     tried: u64,
     wrong: u64,

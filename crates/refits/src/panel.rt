@@ -5,7 +5,7 @@ use rules::{Answer, Controller, Geometry, Recovery};
 use words::least;
 
 // The memory has the new form's 8N + 10B + 19 = 63 words.
-#[derive(Drop)]
+#[derive(Clone, Copy)]
 pub struct Panel {
     pub memory: [u8; 504],
     pub cache: [u8; 128],
@@ -13,13 +13,13 @@ pub struct Panel {
     pub controller: Controller,
 }
 
-#[derive(Drop)]
+#[derive(Clone, Copy)]
 pub enum Form {
     Old,
     New,
 }
 
-#[derive(Drop)]
+#[derive(Clone, Copy)]
 pub enum Call {
     OldFormat(u8),
     // five bytes of a block
@@ -33,13 +33,13 @@ pub enum Call {
 }
 
 // What a call gives, and the panel after it.
-#[derive(Drop)]
+#[derive(Clone, Copy)]
 pub struct Done {
     pub panel: Panel,
     pub answer: Answer,
 }
 
-#[derive(Drop)]
+#[derive(Clone, Copy)]
 pub struct Reopened {
     pub panel: Panel,
     pub recovery: Recovery,

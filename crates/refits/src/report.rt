@@ -6,7 +6,7 @@ use libc::STDOUT_FILENO;
 use rules::Phase;
 
 // Stops in a row that came back alike.
-#[derive(Drop)]
+#[derive(Clone, Copy)]
 pub struct Run {
     pub stop: Stop,
     pub first: usize,

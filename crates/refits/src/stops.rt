@@ -7,7 +7,7 @@ use checks::numbers::{accepted, number_of};
 use rules::{Backup, Controller, Geometry, Phase};
 
 // A call to stop, the panel that it is made on, and the image of the last finished checkpoint there.
-#[derive(Drop)]
+#[derive(Clone, Copy)]
 pub struct Trial {
     pub panel: Panel,
     pub call: Call,
@@ -15,7 +15,7 @@ pub struct Trial {
 }
 
 // What both forms give after a stop, and whether that and the call's own answer are right.
-#[derive(Drop)]
+#[derive(Clone, Copy)]
 pub struct Stop {
     pub old: Came,
     pub new: Came,

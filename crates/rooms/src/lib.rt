@@ -1,4 +1,6 @@
 // Room for a table's words while the board's calls work on them (document 02, No. 4). Each function lends its room to the call of the same name in `tabled`.
+#![tactic(auto)]
+
 ghost use Rattle.std.specs.Prelude.{◌≡◌, ℕ};
 ghost use Rattle.rules.specs.Board.{board_of};
 ghost use Rattle.rules.specs.Calls as C;

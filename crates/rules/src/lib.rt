@@ -1,9 +1,11 @@
 // The board's sizes, record and answers as Rattle types, and the start of each part of the memory (document 01).
+#![tactic(auto)]
+
 ghost use Rattle.std.specs.Prelude.{◌≡◌};
 ghost use Rattle.rules.specs.Geometry.{checkpoint_start, checkpoint_words, home_start, home_words, backup_start, backup_words, mark_start, memory_words};
 
 // The sizes of a board: N blocks and B table slots. Two bytes each, so that no start of a part can overflow.
-#[derive(Drop)]
+#[derive(Clone, Copy)]
 pub struct Geometry {
     pub blocks: u16,
     pub slots: u16,
@@ -71,13 +73,13 @@ impl Geometry {
     }
 }
 
-#[derive(Drop)]
+#[derive(Clone, Copy)]
 pub enum Backup {
     A,
     B,
 }
 
-#[derive(Drop)]
+#[derive(Clone, Copy)]
 pub enum Phase {
     Running,
     // the count of words already stored
@@ -86,7 +88,7 @@ pub enum Phase {
 }
 
 // The controller record. It goes into a call and comes back by value.
-#[derive(Drop)]
+#[derive(Clone, Copy)]
 pub struct Controller {
     pub geometry: Geometry,
     pub registers: [u8; 64],
@@ -95,7 +97,7 @@ pub struct Controller {
 }
 
 // The state of an entry of the table.
-#[derive(Drop)]
+#[derive(Clone, Copy)]
 pub enum State {
     Clean,
     Dirty,
@@ -105,14 +107,14 @@ pub enum State {
 }
 
 // What a lookup finds.
-#[derive(Drop)]
+#[derive(Clone, Copy)]
 pub enum Lookup {
     Entry { slot: usize, state: State },
     Nothing,
 }
 
 // A part of the board that holds blocks.
-#[derive(Drop)]
+#[derive(Clone, Copy)]
 pub enum Place {
     Home,
     Checkpoint,
@@ -120,14 +122,14 @@ pub enum Place {
 }
 
 // The words of a new block that a store lays: `count` of them, from word `first` of the block on.
-#[derive(Drop)]
+#[derive(Clone, Copy)]
 pub struct Window {
     pub first: usize,
     pub count: usize,
 }
 
 // The numbers returned, by their names.
-#[derive(Drop)]
+#[derive(Clone, Copy)]
 pub enum Number {
     Done,
     Geometry,
@@ -148,7 +150,7 @@ pub enum Number {
 }
 
 // The answer of a call that may store words or change the record.
-#[derive(Drop)]
+#[derive(Clone, Copy)]
 pub struct Answer {
     pub number: Number,
     pub words: usize,
@@ -156,14 +158,14 @@ pub struct Answer {
 }
 
 // Whether there are registers: a recovery hands them out in its record, or says that there are none (document 02, No. 2).
-#[derive(Drop)]
+#[derive(Clone, Copy)]
 pub enum Registers {
     Saved,
     Absent,
 }
 
 // The answer of a recovery.
-#[derive(Drop)]
+#[derive(Clone, Copy)]
 pub struct Recovery {
     pub answer: Answer,
     pub registers: Registers,

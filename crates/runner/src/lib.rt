@@ -1,4 +1,6 @@
 // A trace read from standard input field by field, up to a count of bytes, and its lines written to standard output (document 01, The bench trace).
+#![tactic(auto)]
+
 ghost use Rattle.std.specs.Prelude.{◌≡◌, ◌≤◌, length};
 ghost use Rattle.lending.specs.Lending.{Arrays};
 
@@ -8,7 +10,7 @@ use trace::printing::put_bad;
 use trace::{Held, take_turn};
 
 // What a field leaves: whether the run goes on, what the bench holds, and how many bytes of the trace aren't read.
-#[derive(Drop)]
+#[derive(Clone, Copy)]
 pub struct Rest {
     pub go: bool,
     pub held: Held,

@@ -1,4 +1,6 @@
 // The calls that start a board: format and recovery (document 01, Checkpoints).
+#![tactic(auto)]
+
 ghost use Rattle.std.specs.Prelude.{◌≡◌, ℕ};
 ghost use Rattle.rules.specs.Board.{board_of};
 ghost use Rattle.rules.specs.Power.{outcome_of};

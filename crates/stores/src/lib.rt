@@ -1,4 +1,6 @@
 // Store: 1 to 64 bytes of one block replaced (document 01, Stores).
+#![tactic(auto)]
+
 ghost use Rattle.std.specs.Prelude.{◌≡◌, ◌<◌};
 ghost use Rattle.rules.specs.TableWords as W;
 ghost use Rattle.rules.specs.Board.{board_of};

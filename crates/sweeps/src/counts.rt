@@ -11,14 +11,14 @@ use checks::numbers::{accepted, early_number, is_writing};
 use rules::{Controller, Geometry, Number, Phase};
 
 // Whether the table is well formed, and how many of its entries are clean.
-#[derive(Drop)]
+#[derive(Clone, Copy)]
 pub struct Walked {
     pub formed: bool,
     pub entries: usize,
 }
 
 // The number of the checks 1 to 5, and how many entries are clean, of no use where the number refuses.
-#[derive(Drop)]
+#[derive(Clone, Copy)]
 pub struct Counted {
     pub number: Number,
     pub entries: usize,

@@ -1,4 +1,6 @@
 // The board's calls on a table of bytes: its words are read into a lent part, the call works on them, and they are written back unless it is refused (document 02, No. 4).
+#![tactic(auto)]
+
 ghost use Rattle.std.specs.Prelude.{◌≡◌, cond, ℕ, ◌*◌, length};
 ghost use Rattle.words.specs.Words.{number_bytes};
 ghost use Rattle.rules.specs.Board.{board_of};

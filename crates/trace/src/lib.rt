@@ -1,4 +1,6 @@
 // The bench of the trace program: a field's call on a board in the bench's own arrays, and the line that the field prints (document 01, The bench trace).
+#![tactic(auto)]
+
 ghost use Rattle.std.specs.Prelude.{◌≡◌, ◌≤◌, length};
 ghost use Rattle.lending.specs.Lending.{Arrays};
 ghost use Rattle.trace.specs.Trace.{Turns, bench_of, turned, first_record};
@@ -13,21 +15,21 @@ pub mod printing;
 pub mod turns;
 
 // Of a field of tag 6 that isn't used yet.
-#[derive(Drop)]
+#[derive(Clone, Copy)]
 pub enum Allowance {
     Unlimited,
     Words(u16),
 }
 
 // What the bench holds beside its arrays.
-#[derive(Drop)]
+#[derive(Clone, Copy)]
 pub struct Held {
     pub controller: Controller,
     pub allowance: Allowance,
 }
 
 // Whether the run goes on, what the bench holds after a field, and the length of the field's line.
-#[derive(Drop)]
+#[derive(Clone, Copy)]
 pub struct Turn {
     pub go: bool,
     pub held: Held,

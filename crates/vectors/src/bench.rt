@@ -8,14 +8,14 @@ use starts::formats::clear_table;
 use words::lay_number;
 
 // The lengths lent: bytes of the memory, bytes of CACHE, words of the table.
-#[derive(Drop)]
+#[derive(Clone, Copy)]
 pub struct Lent {
     pub memory: usize,
     pub cache: usize,
     pub table: usize,
 }
 
-#[derive(Drop)]
+#[derive(Clone, Copy)]
 pub struct Bench {
     pub lent: Lent,
     pub controller: Controller,

@@ -1,4 +1,6 @@
 // Runs the worked cases of document 01 that stand in the file stdin. It prints every line and, indented, what it gives.
+#![tactic(auto)]
+
 use bench::Bench;
 use board::Answer;
 use checks::numbers::number_of;

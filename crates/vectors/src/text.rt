@@ -40,7 +40,7 @@ pub fn named(line: &[u8], name: &[u8]) -> bool {
 }
 
 // What is known of a line's numbers after some of its bytes.
-#[derive(Drop)]
+#[derive(Clone, Copy)]
 struct Scan {
     // the blanks passed, up to 100
     blanks: u64,

@@ -1,4 +1,6 @@
 // Wire records over the board: wire w lives in block w (document 02, No. 1). Nothing here has a `requires`.
+#![tactic(auto)]
+
 ghost use Rattle.std.specs.Prelude.{◌≡◌};
 ghost use Rattle.rules.specs.Board.{board_of};
 ghost use Rattle.rules.specs.Power.{outcome_of};
@@ -11,7 +13,7 @@ use checks::numbers::accepted;
 pub use records::{Class, Found, Wire};
 use records::{read_block, written};
 
-#[derive(Drop)]
+#[derive(Clone, Copy)]
 pub enum Reading {
     // the board gave the block
     Block(Found),

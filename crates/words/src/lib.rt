@@ -1,4 +1,6 @@
 // Words laid in a part of a memory under an allowance, bytes and numbers read from it, and bytes compared.
+#![tactic(auto)]
+
 ghost use Rattle.std.specs.Prelude.{◌≡◌, true, ◌&&◌, ◌↔◌, [], ◌∷◌, ℕ, ◌+◌, ◌*◌, ◌-◌, ◌≤◌, ◌<◌, min, eqb, length, take, drop};
 ghost use Rattle.std.proofs.Math.Seq.{paste};
 ghost use Rattle.words.specs.Words.{Lays, bytes_to, fill_to, numbers_to, number, word, little_endian};
