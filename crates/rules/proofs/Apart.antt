@@ -23,6 +23,7 @@ apart_at (onto u a) (top e) zero ne = absurd (ne refl)
 apart_at {block} (onto u a) (top {state = state} e) (suc i) ne = not_found i (u block state e)
 apart_at (onto u a) (deep s r) zero ne = s
 apart_at (onto u a) (deep s r) (suc i) ne = apart_at a r i (λ q. ne (ap suc q))
+apart_at {block = block} {slot = slot} {state = state} empty x5 i ne = elim x5 [ ]
 
 -- a word that stands in a slot is the one that is found
 pub apart_finds : {table : List ℕ} (block slot : ℕ) (state : State) → Apart table → slot < length table → says (get_or table slot 0) ≡ names block state
@@ -50,6 +51,7 @@ pub apart_same : {block slot : ℕ} {table : List ℕ} {state : State} (word : �
     → says word ≡ names block next → Apart (set table slot word)
 apart_same {block} word next (onto u a) (top {state = state} e) q = onto (λ k c q'. renamed word next c q q' (u block state e)) a
 apart_same {slot = suc slot} word next (onto {word = below} u a) (deep s r) q = onto (clear_above below slot word next q s u) (apart_same word next a r q)
+apart_same {block = block} {slot = slot} {state = state} word next empty x5 q = elim x5 [ ]
 
 pub apart_new : {block : ℕ} {table : List ℕ} (slot word : ℕ) (next : State) → Apart table → Finds block table Nothing → slot < length table
     → says word ≡ names block next → Apart (set table slot word)

@@ -94,6 +94,10 @@ stays_free p slot board (sweep limit) a_sweep e f = record {
   inside = subst (λ (n : ℕ). slot < n) (sym (swept_count p limit board e)) f.inside;
   free = (swept_slots p limit board slot e).other (λ block q. word_nonzero block Clean (sym q ∙ f.free)) ∙ f.free;
 }
+stays_free p slot board (store _ _ _) x6 e f = elim x6 [ ]
+stays_free p slot board (begin _) x5 e f = elim x5 [ ]
+stays_free p slot board (Rattle.rules.specs.Calls.format _ _) x7 e f = elim x7 [ ]
+stays_free p slot board (Rattle.rules.specs.Calls.recover _) x7 e f = elim x7 [ ]
 
 awake_after : (p : ℕ) (board : Board) (n : Number) (ws : List Store) (after : Volatile) (gives : List ℕ)
     → number_of (settle p board (guard n (carry ws after gives))).number ≡ 0
@@ -105,6 +109,10 @@ awake_after p board n ws after gives e awake = ap (λ (o : Outcome). is_off (pha
 stays_awake : (p : ℕ) (board : Board) (c : Call) → Between c → number_of (call p board c).number ≡ 0 → is_off (phase_of board) ≡ false
     → is_off (phase_of (call p board c).board) ≡ false
 unfolding call plan load_plan peek_plan step_plan sweep_plan
+stays_awake p board (store _ _ _) x6 e awake = elim x6 [ ]
+stays_awake p board (begin _) x5 e awake = elim x5 [ ]
+stays_awake p board (Rattle.rules.specs.Calls.format _ _) x7 e awake = elim x7 [ ]
+stays_awake p board (Rattle.rules.specs.Calls.recover _) x7 e awake = elim x7 [ ]
 stays_awake p board (load block offset len) a_load e awake = awake_after p board (load_number board block offset len) _ _ _ e awake
 stays_awake p board (peek block) a_peek e awake = awake_after p board (peek_number board block) _ _ _ e awake
 stays_awake p board (sweep limit) a_sweep e awake = awake_after p board (sweep_number board) _ _ _ e awake
@@ -121,7 +129,7 @@ all_ready : (slot : ℕ) {board after : Board} (asked : List Asked) → AllBetwe
 all_ready slot [] no_more no_more r = r
 all_ready slot {board} (a ∷ asked) (and_then b bs) (and_call e d) r =
     let later = call_inv a.p board r.plain r.inv a.c (no_format b) in
-    all_ready slot asked bs d
+    all_ready slot {board = (call a.p board a.c).board} asked bs d
     (record { plain = later.0; inv = later.1; awake = stays_awake a.p board a.c b e r.awake; room = stays_free a.p slot board a.c b e r.room })
 
 -- ---- sweep and begin make the room

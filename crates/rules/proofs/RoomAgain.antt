@@ -131,10 +131,14 @@ module _ (P : ℕ → Type 0) (kind : (block : ℕ) → P (word_of block Hidden)
         count = swept_count p limit board e ∙ h.count;
         words = subst (All P) (sym ((states_move p board (sweep limit)).0 e)) (hidden_words kind (lowest_clean limit (table_of board)) (table_of board) h.words);
       }
+  one_between p board (store _ _ _) x6 e h = elim x6 [ ]
+  one_between p board (begin _) x5 e h = elim x5 [ ]
+  one_between p board (Rattle.rules.specs.Calls.format _ _) x7 e h = elim x7 [ ]
+  one_between p board (Rattle.rules.specs.Calls.recover _) x7 e h = elim x7 [ ]
 
   all_between : {board after : Board} (asked : List Asked) → AllBetween asked → AllDone board asked after → Holds P slots board → Holds P slots after
   all_between [] no_more no_more h = h
-  all_between {board} (a ∷ asked) (and_then b bs) (and_call e d) h = all_between asked bs d (one_between a.p board a.c b e h)
+  all_between {board} (a ∷ asked) (and_then b bs) (and_call e d) h = all_between {board = (call a.p board a.c).board} asked bs d (one_between a.p board a.c b e h)
 
 -- a run of calls, parted
 record Parted (board : Board) (first second : List Asked) (after : Board) : Type 0 where
@@ -144,8 +148,8 @@ record Parted (board : Board) (first second : List Asked) (after : Board) : Type
 
 parted : {board after : Board} (first second : List Asked) → AllDone board (first ++ second) after → Parted board first second after
 parted {board} [] second d = record { middle = board; before = no_more; behind = d }
-parted (a ∷ first) second (and_call e d) =
-    let r = parted first second d in record { middle = r.middle; before = and_call e r.before; behind = r.behind }
+parted {board} (a ∷ first) second (and_call e d) =
+    let r = parted {board = (call a.p board a.c).board} first second d in record { middle = r.middle; before = and_call e r.before; behind = r.behind }
 
 -- ---- the table is empty after the second begin
 
@@ -179,8 +183,10 @@ second_sweep {board} p limit slots rest few between (and_call e run) h =
 
 second_begin : {board after : Board} (p slots : ℕ) (registers : List ℕ) → AllDone board (record { p = p; c = begin registers } ∷ []) after → Holds Leaving slots board
     → table_of after ≡ replicate slots 0
-second_begin {board} p slots registers (and_call e no_more) h =
-    begin_table p board registers e ∙ all_free (table_of board) h.words ∙ ap (λ (n : ℕ). replicate n 0) h.count
+second_begin {board} p slots registers (and_call e run) h = ended run
+  where
+    ended : {after : Board} → AllDone (call p board (begin registers)).board [] after → table_of after ≡ replicate slots 0
+    ended no_more = begin_table p board registers e ∙ all_free (table_of board) h.words ∙ ap (λ (n : ℕ). replicate n 0) h.count
 
 pub empty_table : EmptyTable
 unfolding EmptyTable

@@ -85,6 +85,9 @@ module _ (board : Board) (block offset : ℕ) (bytes : List ℕ) where
       short slot (checkpoint_block (sizes board) slot) Dirty run f e (store_checked board block offset bytes e).2 refl (λ p. refl)
   short_list slot Hidden run f is_hidden e =
       short slot (home_block (sizes board) block) Hidden run f e (store_checked board block offset bytes e).2 refl (λ p. refl)
+  short_list slot Clean run f x4 e = elim x4 [ ]
+  short_list slot PreHidden run f x5 e = elim x5 [ ]
+  short_list slot PreDirty run f x6 e = elim x6 [ ]
 
   -- every other row of the column Running has 8 words, where there is room
   eight : (p : ℕ) (r : Lookup) → ((slot : ℕ) (state : State) → DirtyOrHidden state → r ≢ Entry slot state) → (z : Option ℕ) → full (slot_for r z) ≡ false
