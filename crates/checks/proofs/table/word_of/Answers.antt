@@ -4,4 +4,4 @@ use Rattle.checks.proofs.table.word_of.Goals as goal
 
 pub returns : goal.returns
 unfolding word_of
-returns c = omega (arith, c.UNKNOWN-code_of_lem.ensures)
+returns c = omega (arith, c.code_of.ensures)
