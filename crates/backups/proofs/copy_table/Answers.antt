@@ -1,0 +1,18 @@
+use mathlib.Core.Path.{◌∙◌}
+use Prim.Native.Nat.{◌-◌}
+use native.Mathlib.Omega.{arith}
+use lib.ListN.{length-set}
+use Rattle.backups.proofs.Sound.{table_turn, table_copied}
+use Rattle.backups.proofs.copy_table.Goals as goal
+
+pub loop-slot-preserved : goal.loop-slot-preserved
+loop-slot-preserved c =
+    let a = c.args in
+    let l = c.loop-slot in
+    (omega arith, simp length-set l.invariant.1, rw (l.invariant.2, c.number_at-word.ensures) (table_turn a.table.now a.part.now l.slot (omega arith)))
+
+pub returns : goal.returns
+returns c =
+    let a = c.args in
+    let l = c.loop-slot in
+    l.invariant.2 ∙ table_copied a.table.now a.part.now l.slot (omega arith)
