@@ -102,6 +102,7 @@ coming_goes blocks g run (does p c ∷ events) (P.OnItsWay.and_then goes rest) s
           note_coming blocks (sizes run.board) s.plain c (number_of (call p run.board c).number) (stored p (plan run.board c))
           (goes_coming blocks s.plain c (number_of (call p run.board c).number) goes s.held);
     })
+coming_goes blocks g run (Rattle.rules.specs.Runs.stop _ ∷ events) x5 s = elim x5 [ ]
 
 -- what is kept has these blocks
 abbrev Has : (ℕ → List ℕ) → Plain → Type 0

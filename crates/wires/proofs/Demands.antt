@@ -157,6 +157,7 @@ quiet_holds : (g : Geometry) (w : ℕ) (block : List ℕ) (run : Run) (events : 
 unfolding runs advance
 quiet_holds g w block run [] no_more s = s
 quiet_holds g w block run (does p c ∷ events) (and_then spares quiet) s = quiet_holds g w block (doing p c run) events quiet (spared g w block run p c spares s)
+quiet_holds g w block run (Rattle.rules.specs.Runs.stop _ ∷ events) x5 s = elim x5 [ ]
 
 -- ---- what was written
 

@@ -1,0 +1,9 @@
+use Rattle.tabled.proofs.Tables.{tabled_by}
+use Rattle.rules.specs.Calls as C
+use lib.ListN.{length}
+use Rattle.tabled.proofs.begin.Goals as goal
+
+pub returns : goal.returns
+returns c =
+    let a = c.args in
+    tabled_by a.memory.now a.cache.now a.table.now a.controller (length a.words.now) c.requires c.read_table.ensures.0 a.p (C.begin a.registers.now) c.begin-answer.ensures c.write_back.ensures
