@@ -25,7 +25,7 @@ pub struct Regained {
     pub registers: Registers,
 }
 
-// The proofs of the calls are walks by hand, and such a walk takes no struct apart: these four do.
+// An answer and a recovery, taken apart.
 
 fn record_in(answer: Answer) -> Controller
     ensures { result ≡ answer.controller }
