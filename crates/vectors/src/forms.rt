@@ -1,4 +1,5 @@
 // The calls of the new stored form, made by a line of the case file on what is lent (document 02, No. 6).
+use std::io::Stdout;
 use crate::bench::sizes_in;
 use crate::print;
 use crate::text::{byte_at, named, size_at};
@@ -11,7 +12,7 @@ pub fn is_call(line: &[u8]) -> bool {
         || named(line, b"back")
 }
 
-fn recover(
+fn recover(out: Stdout, 
     memory: &[u8],
     cache: &[u8],
     table: &mut [u64],
@@ -19,13 +20,13 @@ fn recover(
     line: &[u8],
 ) -> Answer {
     let g = sizes_in(line);
-    let recovery = header::recover(memory, cache, table, controller, g);
+    let recovery = header::recover(out, memory, cache, table, controller, g);
     let registers = recovery.registers;
-    print::existence(registers);
+    print::existence(out, registers);
     recovery.answer
 }
 
-pub fn answer_to(
+pub fn answer_to(out: Stdout, 
     memory: &mut [u8],
     cache: &[u8],
     table: &mut [u64],
@@ -39,7 +40,7 @@ pub fn answer_to(
         return header::format(memory, cache, table, controller, g, fill, p);
     }
     if named(line, b"newrecover") {
-        return recover(memory, cache, table, controller, line);
+        return recover(out, memory, cache, table, controller, line);
     }
     let p = size_at(line, 3);
     if named(line, b"up") {
