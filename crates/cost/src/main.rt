@@ -1,11 +1,11 @@
 // Repeats one call on a prepared board, so that the instructions of a call can be counted as a difference. tests/cost/measure says how.
 #![tactic(auto)]
 
-use std::io::Stdout;
 use board::{Answer, Recovery, begin, format, load, recover, step, store, sweep};
 use case::Case;
 use checks::numbers::number_of;
 use rules::{Controller, Number};
+use std::io::Stdout;
 use words::least;
 
 mod case;
@@ -122,7 +122,10 @@ fn run(out: Stdout, memory: &mut [u8], cache: &mut [u8], table: &mut [u64], case
     let mut bytes = [5u8; 64];
     let length = least(case.length, 64);
     prepare_memory(memory, cache, table, case);
-    print(out, repeat(memory, cache, table, case, &mut bytes[0..length]));
+    print(
+        out,
+        repeat(memory, cache, table, case, &mut bytes[0..length]),
+    );
 }
 
 // What is lent is exactly what the sizes ask for, as far as the arrays reach.
@@ -133,7 +136,8 @@ fn lend(out: Stdout, memory: &mut [u8], cache: &mut [u8], table: &mut [u64], cas
     let memory_end = least(8 * g.memory_words(), memory.len());
     let cache_end = least(64 * slots, cache.len());
     let table_end = least(slots, table.len());
-    run(out, 
+    run(
+        out,
         &mut memory[0..memory_end],
         &mut cache[0..cache_end],
         &mut table[0..table_end],

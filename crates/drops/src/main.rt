@@ -3,12 +3,12 @@
 
 ghost use Rattle.std.specs.Prelude.{◌≡◌, ◌≤◌, true, length};
 
-use std::io::{Stdin, Stdout};
 use asking::{Asked, parse};
 use fields::length_of;
 use keeping::{drafted, no_registers, saved_after};
 use report::{end_line, joined, no_run, print_bad, print_field, print_run, print_summary};
 use rules::Geometry;
+use std::io::{Stdin, Stdout};
 use stops::{Panel, Plan, Saved, Wanted, act, came_back, plan_of};
 use trace::Allowance;
 use trace::turns::words_of;
@@ -67,7 +67,8 @@ fn stops_of(plan: Plan) -> usize {
 }
 
 // How many stops of the field deviate.
-fn try_stops(out: Stdout, 
+fn try_stops(
+    out: Stdout,
     memory: &[u8; 5512],
     cache: &[u8; 1024],
     table: &[u64; 16],
@@ -147,7 +148,8 @@ fn counted(panel: Panel, registers: Wanted, stops: usize, wrong: u64) -> Panel {
 }
 
 // A field: its stops, each on a copy, then its own call on the board.
-fn answered(out: Stdout, 
+fn answered(
+    out: Stdout,
     memory: &mut [u8; 5512],
     cache: &mut [u8; 1024],
     table: &mut [u64; 16],
@@ -165,7 +167,9 @@ fn answered(out: Stdout,
     let stops = stops_of(plan);
     let ready = counted(panel, registers, stops, 0);
     print_field(out, field, asked, plan.words, stops as u64);
-    let wrong = try_stops(out, memory, cache, table, kept, draft, ready, plan, value, stops);
+    let wrong = try_stops(
+        out, memory, cache, table, kept, draft, ready, plan, value, stops,
+    );
     let told = counted(ready, registers, 0, wrong);
     carried(memory, cache, table, kept, draft, told, asked, value)
 }
@@ -181,7 +185,8 @@ fn value_came(input: Stdin, value: &mut [u8], len: usize) -> bool
 }
 
 // A field whose value came, or `bad`.
-fn parsed(out: Stdout, 
+fn parsed(
+    out: Stdout,
     memory: &mut [u8; 5512],
     cache: &mut [u8; 1024],
     table: &mut [u64; 16],
@@ -196,8 +201,8 @@ fn parsed(out: Stdout,
     if is_bad(asked) {
         return bad(out, panel, field);
     }
-    let next = answered(out, 
-        memory, cache, table, kept, draft, panel, field, asked, value,
+    let next = answered(
+        out, memory, cache, table, kept, draft, panel, field, asked, value,
     );
     Rest {
         go: true,
@@ -206,7 +211,9 @@ fn parsed(out: Stdout,
 }
 
 // The value of a field is read, up to its length.
-fn valued(input: Stdin, out: Stdout, 
+fn valued(
+    input: Stdin,
+    out: Stdout,
     memory: &mut [u8; 5512],
     cache: &mut [u8; 1024],
     table: &mut [u64; 16],
@@ -221,7 +228,8 @@ fn valued(input: Stdin, out: Stdout,
     if !value_came(input, value, len) {
         return bad(out, panel, field);
     }
-    parsed(out, 
+    parsed(
+        out,
         memory,
         cache,
         table,
@@ -235,7 +243,9 @@ fn valued(input: Stdin, out: Stdout,
 }
 
 // One field of the trace. The end of the input between fields ends the run quietly, inside a field with `bad`.
-fn one(input: Stdin, out: Stdout, 
+fn one(
+    input: Stdin,
+    out: Stdout,
     memory: &mut [u8; 5512],
     cache: &mut [u8; 1024],
     table: &mut [u64; 16],
@@ -254,8 +264,8 @@ fn one(input: Stdin, out: Stdout,
         return bad(out, panel, field);
     }
     let len = length_of(head[1], head[2]);
-    valued(input, out, 
-        memory, cache, table, kept, draft, panel, field, head[0], value, len,
+    valued(
+        input, out, memory, cache, table, kept, draft, panel, field, head[0], value, len,
     )
 }
 
@@ -293,7 +303,9 @@ fn main(rt: HostRuntime) {
     let mut field: u64 = 0;
     while field < u64::MAX {
         field += 1;
-        let rest = one(input, out, 
+        let rest = one(
+            input,
+            out,
             &mut memory,
             &mut cache,
             &mut table,

@@ -1,7 +1,7 @@
 // What the program prints: a line for each field with its list and its stops in runs, and the summary.
-use std::io::Stdout;
 use crate::stops::Came;
 use asking::Asked;
+use std::io::Stdout;
 
 // Stops in a row with the same outcome; `wrong` counts all that deviate so far.
 #[derive(Clone, Copy)]

@@ -1,12 +1,12 @@
 // A board is moved between the stored forms, or formatted in the new one, and the supply stops: what does each form read when it returns? Every stop is tried.
 #![tactic(auto)]
 
-use std::io::Stdout;
 use boards::{off, running, stored_board, with_other_sizes, writing};
 use expected::list_words;
 use images::{Image, image_of};
 use panel::{Call, Panel, after};
 use report::{Run, print_heading, print_run, print_summary};
+use std::io::Stdout;
 use stops::{Trial, alike, stopped};
 
 mod answers;

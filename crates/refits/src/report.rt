@@ -1,9 +1,9 @@
 // What the program prints: a heading, a line for each run of stops that came back alike, and the summary.
-use std::io::Stdout;
 use crate::expected::{Came, same_came};
 use crate::panel::Call;
 use crate::stops::Stop;
 use rules::Phase;
+use std::io::Stdout;
 
 // Stops in a row that came back alike.
 #[derive(Clone, Copy)]
@@ -22,7 +22,10 @@ fn decimal(out: Stdout, value: u64) {
 }
 
 pub fn print_heading(out: Stdout) {
-    text(out, b"every stop of the moves and of the new format: 3 blocks, 2 slots\n");
+    text(
+        out,
+        b"every stop of the moves and of the new format: 3 blocks, 2 slots\n",
+    );
 }
 
 fn print_call(out: Stdout, call: Call) {
