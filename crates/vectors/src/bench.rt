@@ -1,11 +1,11 @@
 // The bench: what is lent of each array, the record, and the lines that set them.
 ghost use Rattle.std.specs.Prelude.{◌<◌};
 
-use std::io::Stdout;
 use crate::print;
 use crate::text::{argument, named, short_at, size_at};
 use rules::{Backup, Controller, Geometry, Phase};
 use starts::formats::clear_table;
+use std::io::Stdout;
 use words::lay_number;
 
 // The lengths lent: bytes of the memory, bytes of CACHE, words of the table.
@@ -171,7 +171,8 @@ fn set_record(out: Stdout, controller: Controller, line: &[u8]) -> Controller {
     controller
 }
 
-pub fn set(out: Stdout, 
+pub fn set(
+    out: Stdout,
     memory: &mut [u8],
     cache: &mut [u8],
     table: &mut [u64],

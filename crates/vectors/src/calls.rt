@@ -1,14 +1,15 @@
 // The calls of the board, made by a line of the case file on what is lent.
-use std::io::Stdout;
 use crate::bench::{count_up, sizes_in};
 use crate::text::{byte_at, named, size_at};
 use crate::{forms, print, wiring};
 use board::{Answer, Controller};
 use checks::numbers::number_of;
+use std::io::Stdout;
 use words::least;
 
 // The companion's number, then the store.
-fn store_both(out: Stdout, 
+fn store_both(
+    out: Stdout,
     memory: &mut [u8],
     cache: &mut [u8],
     table: &mut [u64],
@@ -22,11 +23,12 @@ fn store_both(out: Stdout,
     let number = board::store_number(memory, cache, table, controller, block, offset, bytes);
     print::spaced(out, number_of(number));
     print::text(out, b",");
-    board::store(out, memory, cache, table, controller, block, offset, bytes, p)
+    board::store(memory, cache, table, controller, block, offset, bytes, p)
 }
 
 // The bytes, the registers and the destination are cut from `space`, which has one byte more than the board takes.
-fn store(out: Stdout, 
+fn store(
+    out: Stdout,
     memory: &mut [u8],
     cache: &mut [u8],
     table: &mut [u64],
@@ -65,7 +67,8 @@ fn sweep(
     board::sweep(memory, cache, table, controller, limit, p)
 }
 
-fn recover(out: Stdout, 
+fn recover(
+    out: Stdout,
     memory: &[u8],
     cache: &[u8],
     table: &mut [u64],
@@ -73,7 +76,7 @@ fn recover(out: Stdout,
     line: &[u8],
 ) -> Answer {
     let g = sizes_in(line);
-    let recovery = board::recover(out, memory, cache, table, controller, g);
+    let recovery = board::recover(memory, cache, table, controller, g);
     let registers = recovery.registers;
     print::existence(out, registers);
     recovery.answer
@@ -90,7 +93,8 @@ pub fn is_call(line: &[u8]) -> bool {
         || forms::is_call(line)
 }
 
-pub fn answer_to(out: Stdout, 
+pub fn answer_to(
+    out: Stdout,
     memory: &mut [u8],
     cache: &mut [u8],
     table: &mut [u64],
@@ -128,7 +132,8 @@ pub fn answer_to(out: Stdout,
 }
 
 // The number, then the destination, which holds the byte dd before.
-fn load(out: Stdout, 
+fn load(
+    out: Stdout,
     memory: &[u8],
     cache: &[u8],
     table: &[u64],
@@ -140,7 +145,7 @@ fn load(out: Stdout,
     let offset = size_at(line, 2);
     let len = least(size_at(line, 3), space.len());
     count_up(space, 65, 221);
-    let number = board::load(out, 
+    let number = board::load(
         memory,
         cache,
         table,
@@ -156,11 +161,18 @@ fn load(out: Stdout,
     print::hex(out, &space[0..len]);
 }
 
-fn peek<'a>(memory: &'a [u8], cache: &'a [u8], table: &[u64], controller: Controller, line: &[u8]) {
+fn peek<'a>(
+    out: Stdout,
+    memory: &'a [u8],
+    cache: &'a [u8],
+    table: &[u64],
+    controller: Controller,
+    line: &[u8],
+) {
     let block = size_at(line, 1);
     let number = board::peek_number(memory, cache, table, controller, block);
     print::spaced(out, number_of(number));
-    let part = board::peek(out, memory, cache, table, controller, block);
+    let part = board::peek(memory, cache, table, controller, block);
     print::ends(out, part);
 }
 
@@ -180,6 +192,7 @@ pub fn is_reading(line: &[u8]) -> bool {
 
 // The lines that change nothing.
 pub fn read<'a>(
+    out: Stdout,
     memory: &'a [u8],
     cache: &'a [u8],
     table: &[u64],

@@ -1,9 +1,9 @@
 // The calls of the new stored form, made by a line of the case file on what is lent (document 02, No. 6).
-use std::io::Stdout;
 use crate::bench::sizes_in;
 use crate::print;
 use crate::text::{byte_at, named, size_at};
 use board::{Answer, Controller};
+use std::io::Stdout;
 
 pub fn is_call(line: &[u8]) -> bool {
     named(line, b"newformat")
@@ -12,7 +12,8 @@ pub fn is_call(line: &[u8]) -> bool {
         || named(line, b"back")
 }
 
-fn recover(out: Stdout, 
+fn recover(
+    out: Stdout,
     memory: &[u8],
     cache: &[u8],
     table: &mut [u64],
@@ -20,13 +21,14 @@ fn recover(out: Stdout,
     line: &[u8],
 ) -> Answer {
     let g = sizes_in(line);
-    let recovery = header::recover(out, memory, cache, table, controller, g);
+    let recovery = header::recover(memory, cache, table, controller, g);
     let registers = recovery.registers;
     print::existence(out, registers);
     recovery.answer
 }
 
-pub fn answer_to(out: Stdout, 
+pub fn answer_to(
+    out: Stdout,
     memory: &mut [u8],
     cache: &[u8],
     table: &mut [u64],

@@ -1,11 +1,11 @@
 // Runs the worked cases of document 01 that stand in the file stdin. It prints every line and, indented, what it gives.
 #![tactic(auto)]
 
-use std::io::Stdout;
 use bench::Bench;
 use board::Answer;
 use checks::numbers::number_of;
 use rules::Geometry;
+use std::io::Stdout;
 use words::least;
 
 mod bench;
@@ -28,7 +28,8 @@ fn outcome(out: Stdout, answer: Answer, table: &[u64]) {
 }
 
 // A call on what is lent.
-fn call(out: Stdout, 
+fn call(
+    out: Stdout,
     memory: &mut [u8],
     cache: &mut [u8],
     table: &mut [u64],
@@ -41,7 +42,8 @@ fn call(out: Stdout,
     let memory_end = least(lent.memory, memory.len());
     let cache_end = least(lent.cache, cache.len());
     let table_end = least(lent.table, table.len());
-    let answer = calls::answer_to(out, 
+    let answer = calls::answer_to(
+        out,
         &mut memory[0..memory_end],
         &mut cache[0..cache_end],
         &mut table[0..table_end],
@@ -58,6 +60,7 @@ fn call(out: Stdout,
 }
 
 fn read<'a>(
+    out: Stdout,
     memory: &'a [u8],
     cache: &'a [u8],
     table: &[u64],
@@ -70,7 +73,8 @@ fn read<'a>(
     let memory_end = least(lent.memory, memory.len());
     let cache_end = least(lent.cache, cache.len());
     let table_end = least(lent.table, table.len());
-    calls::read(out, 
+    calls::read(
+        out,
         &memory[0..memory_end],
         &cache[0..cache_end],
         &table[0..table_end],
@@ -81,7 +85,8 @@ fn read<'a>(
 }
 
 // After a call the words of the memory that it changed, and those of CACHE.
-fn turn(out: Stdout, 
+fn turn(
+    out: Stdout,
     memory: &mut [u8; 680],
     cache: &mut [u8; 320],
     table: &mut [u64; 5],
@@ -132,7 +137,8 @@ fn run(out: Stdout, text: &[u8]) {
     let mut start = 0;
     while start < text.len() {
         let end = text::line_end(text, start);
-        state = turn(out, 
+        state = turn(
+            out,
             &mut memory,
             &mut cache,
             &mut table,
@@ -143,11 +149,13 @@ fn run(out: Stdout, text: &[u8]) {
     }
 }
 
+// 65,536 bytes, more than the case file has
+fn large_buffer() -> [u8; 65536] {
+    [0; 65536]
+}
+
 fn main(rt: HostRuntime) {
-    let input = rt.stdin();
-    let out = rt.stdout();
-    // 65,536 bytes, more than the case file has
-    let mut input = io::large_buffer();
-    let got = streams::read_full(input, &mut input);
-    run(out, &input[0..got]);
+    let mut input = large_buffer();
+    let got = streams::read_full(rt.stdin(), &mut input);
+    run(rt.stdout(), &input[0..got]);
 }

@@ -1,8 +1,8 @@
 // What the program prints: the outcome of a call, bytes in hex, and which words a call changed.
 ghost use Rattle.std.specs.Prelude.{◌+◌, ◌*◌, ◌≤◌, length};
 
-use std::io::Stdout;
 use rules::{Backup, Controller, Geometry, Phase, Registers};
+use std::io::Stdout;
 use words::{least, number_at};
 
 pub fn text(out: Stdout, bytes: &[u8]) {

@@ -1,8 +1,8 @@
 // Wire records, written and read by a line of the case file on what is lent.
-use std::io::Stdout;
 use crate::print;
 use crate::text::{argument, short_at, size_at};
 use board::{Answer, Controller};
+use std::io::Stdout;
 use wires::{Class, Found, Reading, Wire};
 
 fn wire_in(line: &[u8]) -> Wire {
@@ -43,9 +43,16 @@ fn class_name(out: Stdout, class: Class) {
 }
 
 // The number, then the current, the latch, the test and the class where there is a record.
-pub fn read(out: Stdout, memory: &[u8], cache: &[u8], table: &[u64], controller: Controller, line: &[u8]) {
+pub fn read(
+    out: Stdout,
+    memory: &[u8],
+    cache: &[u8],
+    table: &[u64],
+    controller: Controller,
+    line: &[u8],
+) {
     let block = size_at(line, 1);
-    let reading = wires::read(out, memory, cache, table, controller, block);
+    let reading = wires::read(memory, cache, table, controller, block);
     print::spaced(out, wires::number_of(reading));
     let Reading::Block(found) = reading else {
         return;
