@@ -1,7 +1,7 @@
 // The calls of the board, made by a line of the case file on what is lent.
 use crate::bench::{count_up, sizes_in};
 use crate::text::{byte_at, named, size_at};
-use crate::{forms, print, wiring};
+use crate::{new_form, print, wiring};
 use board::{Answer, Controller};
 use checks::numbers::number_of;
 use std::io::Stdout;
@@ -90,7 +90,7 @@ pub fn is_call(line: &[u8]) -> bool {
         || named(line, b"sweep")
         || named(line, b"format")
         || named(line, b"recover")
-        || forms::is_call(line)
+        || new_form::is_call(line)
 }
 
 pub fn answer_to(
@@ -128,7 +128,7 @@ pub fn answer_to(
     if named(line, b"recover") {
         return recover(out, memory, cache, table, controller, line);
     }
-    forms::answer_to(out, memory, cache, table, controller, line)
+    new_form::answer_to(out, memory, cache, table, controller, line)
 }
 
 // The number, then the destination, which holds the byte dd before.

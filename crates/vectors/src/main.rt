@@ -10,7 +10,7 @@ use words::least;
 
 mod bench;
 mod calls;
-mod forms;
+mod new_form;
 mod print;
 mod text;
 mod wiring;
