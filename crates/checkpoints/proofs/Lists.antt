@@ -14,7 +14,6 @@ use Rattle.words.proofs.Makers.{bytes_to_laid, numbers_to_laid}
 use Rattle.words.proofs.Parts.{tail_part, moved, shifted, take_shifted, shifted_bytes_to, lays_part}
 use Rattle.rules.specs.declared.Geometry.{Geometry}
 use Rattle.rules.specs.declared.Backup.{Backup}
-use Rattle.rules.specs.declared.Backup.TheVariants.{A}
 use Rattle.rules.specs.Geometry.{backup_start, mark_start, memory_words}
 use Rattle.rules.specs.TableWords.{changed}
 use Rattle.rules.specs.Checkpoints.{saved, mark_of, checkpoint_list}

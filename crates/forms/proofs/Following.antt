@@ -26,7 +26,7 @@ use Rattle.rules.specs.Runs.{Run}
 use Rattle.rules.proofs.Invariant.{did_not, no_mark, note_unmarked}
 use Rattle.checks.proofs.Settled.{guard_on}
 use Rattle.forms.specs.Stored.{header_of, without, last_two, old_board}
-use Rattle.forms.specs.Calls.{header_checks, headed_number, recover_plan, Call, old, recover, call}
+use Rattle.forms.specs.Calls.{header_checks, headed_number, recover_plan, old, recover, call}
 use Rattle.forms.specs.Runs.{old_run, shortened, promised, doing, lost, stopping, stopping_new}
 use Rattle.forms.proofs.Checking.{headed}
 use Rattle.forms.proofs.Recovering.{recover_same, recover_stores}

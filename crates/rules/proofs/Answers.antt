@@ -10,7 +10,7 @@ use lib.Dec.{eqb, leb, leb-zero}
 use lib.ListN.{length, take}
 use lib.Seq.{take_all, length-take-le}
 use borrow.Author.Tests.{eqb-true, eqb-false, eq-eqb, leb-true, leb-false}
-use Rattle.words.specs.Words.{words, Store, lay, number}
+use Rattle.words.specs.Words.{Store, lay}
 use Rattle.rules.specs.declared.Number.{Number}
 use Rattle.rules.specs.Board.{Board, Volatile, cache_of, table_of}
 use Rattle.rules.specs.Numbers.{number_of}

@@ -3,7 +3,6 @@ use mathlib.Core.Path.{◌≡◌, refl, sym, ap, ◌∙◌, subst}
 use mathlib.Core.Logic.{◌≢◌}
 use mathlib.Core.Bool.{Bool, true, false, ◌&&◌, ◌||◌}
 use mathlib.Core.List.{List, ◌∷◌, ◌++◌}
-use mathlib.Core.Option.{some}
 use Prim.Native.Nat.{ℕ, ◌+◌, ◌*◌, ◌≤◌, ◌<◌}
 use native.Mathlib.Omega.{arith}
 use native.Mathlib.Nat.{suc-ne-zero}
@@ -22,7 +21,6 @@ use Rattle.rules.specs.Board.{Board, sizes, phase_of, cache_of, table_of}
 use Rattle.rules.specs.Numbers.{number_of, Check, ◌⇒◌, first_of, outside, inexact, over_count, is_off, allows, well_said, well_formed, malformed, common_checks, no_block, out_of_range}
 use Rattle.rules.proofs.Clashes.{and_left, and_right, or_false}
 use Rattle.rules.proofs.Changing.{every_all}
-use Rattle.rules.proofs.Saving.{blocks_low}
 
 -- the first of these checks is not the one that applies
 pub passed : (applies : Bool) (n : Number) (checks : List Check) → number_of n ≢ 0 → number_of (first_of ((applies ⇒ n) ∷ checks)) ≡ 0

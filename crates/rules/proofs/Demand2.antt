@@ -3,12 +3,11 @@ use mathlib.Core.Path.{◌≡◌, refl, sym, ap, ◌∙◌, subst}
 use mathlib.Core.Bool.{Bool, true, false, cond}
 use mathlib.Core.List.{List, [], ◌∷◌}
 use mathlib.Core.Option.{Option, none, some}
-use Prim.Native.Nat.{ℕ, ◌-◌}
+use Prim.Native.Nat.{ℕ}
 use lib.Dec.{eqb}
 use borrow.Author.Tests.{eqb-true, eqb-false}
-use Rattle.words.specs.Words.{Store, lay, number}
+use Rattle.words.specs.Words.{Store, lay}
 use Rattle.rules.specs.declared.Geometry.{Geometry}
-use Rattle.rules.specs.declared.Backup.{Backup}
 use Rattle.rules.specs.declared.Number.TheVariants as No
 use Rattle.rules.specs.Board.{Board, Volatile, sizes, table_of}
 use Rattle.rules.specs.Numbers.{number_of, ◌⇒◌}

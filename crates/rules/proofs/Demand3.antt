@@ -2,17 +2,16 @@
 use mathlib.Core.Path.{◌≡◌, refl, sym, ap, ◌∙◌, subst}
 use mathlib.Core.List.{List, [], ◌∷◌}
 use mathlib.Core.Option.{Option, none, some}
-use Prim.Native.Nat.{ℕ, ◌*◌, ◌-◌}
+use Prim.Native.Nat.{ℕ, ◌*◌}
 use lib.ListN.{length}
-use Rattle.words.specs.Words.{words, Store, lay, number}
+use Rattle.words.specs.Words.{Store, lay}
 use Rattle.words.proofs.All.{done}
 use Rattle.rules.specs.declared.Geometry.{Geometry}
 use Rattle.rules.specs.Board.{Board, Volatile, sizes}
 use Rattle.rules.specs.Numbers.{number_of}
 use Rattle.rules.specs.Power.{Plan, refuse, carry, Outcome, whole, stored}
-use Rattle.rules.specs.Loads.{shows}
 use Rattle.rules.specs.Starts.{handed_out, recorded}
-use Rattle.rules.specs.Calls.{Call, format, recover, plan, call}
+use Rattle.rules.specs.Calls.{Call, recover, plan, call}
 use Rattle.rules.specs.PlainMachine.{Plain, formatted, did, note}
 use Rattle.rules.specs.Runs.{stop, Event, does, Run, from_some, promised, doing, unless_refused, stopping, advance, runs, Lengths, NoFormat, a_load, a_peek, a_store, a_begin, a_step, a_recover, a_sweep, Allowed, a_call, a_stop, AllAllowed, and_then, FromFormat, formatted_run, run_from}
 use Rattle.rules.specs.Promises.{Recovers, RecoversTo, Safe, Demand3}

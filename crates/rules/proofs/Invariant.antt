@@ -4,13 +4,13 @@ use mathlib.Core.Logic.{◌≢◌}
 use mathlib.Core.Bool.{Bool, true, false, cond}
 use mathlib.Core.List.{List, [], map}
 use mathlib.Core.Option.{Option, none, some}
-use Prim.Native.Nat.{ℕ, zero, suc, ◌+◌, ◌-◌, ◌≤◌, ◌<◌}
+use Prim.Native.Nat.{ℕ, zero, suc, ◌+◌, ◌≤◌, ◌<◌}
 use native.Mathlib.Omega.{arith}
 use lib.Dec.{eqb, leb, ltb}
 use lib.ListN.{length, take}
 use lib.Seq.{take_all}
 use borrow.Author.Tests.{eqb-true, eqb-false, ne_eqb, leb-true, leb-false}
-use Rattle.words.specs.Words.{block_at, Store, lay, number}
+use Rattle.words.specs.Words.{block_at, Store, lay}
 use Rattle.words.proofs.All.{All, done, also, all_take, all_map}
 use Rattle.words.proofs.Lists.{Fit, lay-length}
 use Rattle.words.proofs.Rising.{Held, Below}
@@ -26,9 +26,9 @@ use Rattle.rules.specs.TableWords.{Says, free, names, neither, says, changed}
 use Rattle.rules.specs.Board.{Board, Volatile, sizes, phase_of, cache_of, table_of}
 use Rattle.rules.specs.Numbers.{number_of, outside, while_writing, allows, well_said, well_formed}
 use Rattle.rules.specs.Power.{Plan, refuse, carry, guard, Outcome, whole, switched_off, cut, settle, stored}
-use Rattle.rules.specs.Loads.{shows, visible}
+use Rattle.rules.specs.Loads.{visible}
 use Rattle.rules.specs.Stores.{stores}
-use Rattle.rules.specs.Checkpoints.{begun, saved, other, checkpoint_list}
+use Rattle.rules.specs.Checkpoints.{saved, other, checkpoint_list}
 use Rattle.rules.specs.Starts.{saved_block}
 use Rattle.rules.specs.Calls.{Call, load, peek, store, begin, step, format, recover, sweep}
 use Rattle.rules.specs.PlainMachine.{Picture, Plain, did, has_mark, note}

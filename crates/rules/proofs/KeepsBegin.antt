@@ -4,7 +4,7 @@ use mathlib.Core.Logic.{◌≢◌}
 use mathlib.Core.Bool.{Bool, true, false, not, ◌&&◌}
 use mathlib.Core.List.{List, [], ◌∷◌, ◌++◌, map}
 use mathlib.Core.Option.{Option, none, some}
-use Prim.Native.Nat.{ℕ, zero, suc, ◌+◌, ◌*◌, ◌-◌, ◌≤◌, ◌<◌}
+use Prim.Native.Nat.{ℕ, zero, suc, ◌+◌, ◌*◌, ◌≤◌, ◌<◌}
 use native.Mathlib.Omega.{arith}
 use native.Mathlib.Nat.{le_refl, suc-ne-zero, not-suc-le-zero, zero-add}
 use native.Mathlib.Decide.{ℕ_discrete}
@@ -17,7 +17,6 @@ use Rattle.words.proofs.Lists.{Fit, lay-length, lay-append}
 use Rattle.words.proofs.Blocks.{Clear, clear_in, block_clear, block_laid, block_stores, length_block}
 use Rattle.rules.specs.declared.Geometry.{Geometry}
 use Rattle.rules.specs.declared.Backup.{Backup}
-use Rattle.rules.specs.declared.Backup.TheVariants.{A}
 use Rattle.rules.specs.declared.Phase.{Phase}
 use Rattle.rules.specs.declared.Phase.TheVariants.{Running, Writing, Off}
 use Rattle.rules.specs.declared.State.{State}
@@ -30,7 +29,7 @@ use Rattle.rules.specs.TableWords.{word_of, Says, free, names, neither, says, lo
 use Rattle.rules.specs.Board.{Board, sizes, phase_of, cache_of, table_of}
 use Rattle.rules.specs.Numbers.{number_of, ◌⇒◌, inexact, is_off, while_writing, allows, well_said, well_formed, is_writing}
 use Rattle.rules.specs.Power.{Plan, carry}
-use Rattle.rules.specs.Loads.{in_memory, spot_in, shows, spot_of, block_in, visible}
+use Rattle.rules.specs.Loads.{in_memory, spot_in, spot_of, block_in, visible}
 use Rattle.rules.specs.Checkpoints.{copied_to, copy_of, copies, begun, begin_number, begin_plan, saved}
 use Rattle.rules.specs.Starts.{saved_by, saved_block}
 use Rattle.rules.specs.Calls.{begin}

@@ -3,7 +3,7 @@ use mathlib.Core.Path.{◌≡◌, refl, sym, ap, ◌∙◌, subst}
 use mathlib.Core.Bool.{true, false}
 use mathlib.Core.List.{List, [], ◌∷◌, ◌++◌, map, append_assoc}
 use mathlib.Core.Option.{Option, none, some}
-use Prim.Native.Nat.{ℕ, zero, suc, ◌+◌, ◌*◌, ◌-◌, ◌<◌}
+use Prim.Native.Nat.{ℕ, zero, suc, ◌+◌, ◌*◌, ◌<◌}
 use native.Mathlib.Omega.{arith}
 use native.Mathlib.Nat.{not-suc-le-zero}
 use lib.Dec.{ltb}
@@ -30,8 +30,7 @@ use Rattle.rules.specs.TableWords.{Says, free, names, neither, says, one_on, loo
 use Rattle.rules.specs.Board.{Board, sizes, cache_of}
 use Rattle.rules.specs.Numbers.{number_of, ◌⇒◌, first_of, outside, allows, well_said, well_formed}
 use Rattle.rules.specs.Power.{Plan, carry, guard}
-use Rattle.rules.specs.Loads.{spot_in, shows, spot_of, block_in, visible, load_number, load_plan, peek_number, peek_plan}
-use Rattle.rules.specs.Stores.{stores}
+use Rattle.rules.specs.Loads.{spot_in, spot_of, block_in, visible, load_number, load_plan, peek_number, peek_plan}
 use Rattle.rules.specs.Starts.{format_mark, format_list, finished_by, has_registers, finished_in, saved_registers, handed_out, recorded, table_in, only_clean, sound, no_checkpoint, unsound, recover_number, recover_from, recover_plan, saved_by, saved_block}
 use Rattle.rules.specs.Calls.{Call, load, peek, recover}
 use Rattle.rules.specs.PlainMachine.{Picture, Plain, formatted, did}

@@ -4,7 +4,7 @@ use mathlib.Core.Logic.{◌≢◌}
 use mathlib.Core.Bool.{Bool, true, false, ◌&&◌, cond}
 use mathlib.Core.List.{List, [], ◌∷◌, ◌++◌, map}
 use mathlib.Core.Option.{some}
-use Prim.Native.Nat.{ℕ, ◌+◌, ◌*◌, ◌-◌, ◌^◌, ◌≤◌, ◌<◌}
+use Prim.Native.Nat.{ℕ, ◌+◌, ◌*◌, ◌^◌, ◌≤◌, ◌<◌}
 use native.Mathlib.Omega.{arith}
 use native.Mathlib.Nat.{suc-ne-zero}
 use lib.Dec.{eqb, ltb}
@@ -36,7 +36,7 @@ use Rattle.rules.specs.Board.{Board, sizes, phase_of, cache_of, table_of}
 use Rattle.rules.specs.Numbers.{number_of, ◌⇒◌, is_off, while_writing, well_said, well_formed, is_running}
 use Rattle.rules.specs.Power.{Plan, carry, switched_off}
 use Rattle.rules.specs.Loads.{spot_in, shows, spot_of, block_in, visible}
-use Rattle.rules.specs.Checkpoints.{begun, saved, other, mark_of, checkpoint_list, count_of, step_number, next_words, step_plan}
+use Rattle.rules.specs.Checkpoints.{saved, other, mark_of, checkpoint_list, count_of, step_number, next_words, step_plan}
 use Rattle.rules.specs.Starts.{finished_by, has_registers, finished_in, registers_in, table_in, only_clean, sound, saved_block}
 use Rattle.rules.specs.Calls.{step}
 use Rattle.rules.specs.PlainMachine.{Plain, did, has_mark, kept_or, finish, note}

@@ -19,7 +19,6 @@ use Rattle.words.proofs.Rising.{Held}
 use Rattle.words.proofs.Makers.{Laid}
 use Rattle.words.proofs.Blocks.{block_stores, length_block}
 use Rattle.rules.specs.declared.Geometry.{Geometry}
-use Rattle.rules.specs.declared.Backup.TheVariants.{A}
 use Rattle.rules.specs.declared.Phase.{Phase}
 use Rattle.rules.specs.declared.Phase.TheVariants.{Running, Writing, Off}
 use Rattle.rules.specs.declared.State.{State}
@@ -37,7 +36,7 @@ use Rattle.rules.specs.Numbers.{number_of, Check, ◌⇒◌, is_off, while_writi
 use Rattle.rules.specs.Power.{Plan, carry}
 use Rattle.rules.specs.Loads.{Spot, spot_in, shows, spot_of, block_in, visible, seen}
 use Rattle.rules.specs.Stores.{replaced, to, stores, move_in, slot_for, full, store_number, all, is_short, window_for, window_to, lay_at, moved, moved_to, store_by, store_plan}
-use Rattle.rules.specs.Checkpoints.{begun, saved, other, checkpoint_list}
+use Rattle.rules.specs.Checkpoints.{saved, other, checkpoint_list}
 use Rattle.rules.specs.Starts.{saved_by, saved_block}
 use Rattle.rules.specs.Calls.{store}
 use Rattle.rules.specs.PlainMachine.{Plain, laid_over, overlaid, update, did}

@@ -3,12 +3,11 @@ use mathlib.Core.Path.{◌≡◌, refl, sym, ap, ◌∙◌}
 use mathlib.Core.Logic.{◌≢◌}
 use mathlib.Core.Bool.{Bool, true, false, not}
 use mathlib.Core.List.{List, [], ◌∷◌}
-use Prim.Native.Nat.{ℕ, ◌+◌, ◌-◌, ◌≤◌, ◌<◌}
+use Prim.Native.Nat.{ℕ, ◌+◌, ◌≤◌, ◌<◌}
 use native.Mathlib.Omega.{arith}
 use native.Mathlib.Nat.{suc-ne-zero}
 use lib.ListN.{length, take, drop}
 use borrow.Author.Tests.{ne_eqb, leb-false, lt-leb, le-ltb}
-use Rattle.words.specs.Words.{number}
 use Rattle.words.proofs.All.{All}
 use Rattle.words.proofs.Blocks.{length_block}
 use Rattle.rules.specs.declared.Phase.{Phase}
@@ -20,7 +19,7 @@ use Rattle.rules.specs.TableWords.{every}
 use Rattle.rules.specs.Board.{Board, sizes, phase_of, table_of}
 use Rattle.rules.specs.Numbers.{number_of, ◌⇒◌, first_of, over_count, is_off, while_writing, allows, well_formed, malformed, common_checks, no_block, out_of_range}
 use Rattle.rules.specs.Power.{carry, guard, Outcome, settle}
-use Rattle.rules.specs.Loads.{shows, seen, load_number, load_plan, peek_number, peek_plan}
+use Rattle.rules.specs.Loads.{seen, load_number, load_plan, peek_number, peek_plan}
 use Rattle.rules.specs.Starts.{saved_block}
 use Rattle.rules.specs.Calls.{load, peek, plan, call}
 use Rattle.rules.specs.PlainMachine.{Plain}

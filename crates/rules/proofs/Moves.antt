@@ -14,7 +14,6 @@ use Rattle.words.specs.Words.{word, Store, lay, number}
 use Rattle.words.proofs.All.{All}
 use Rattle.rules.specs.declared.Geometry.{Geometry}
 use Rattle.rules.specs.declared.Backup.{Backup}
-use Rattle.rules.specs.declared.Backup.TheVariants.{A}
 use Rattle.rules.specs.declared.State.{State}
 use Rattle.rules.specs.declared.Lookup.{Lookup}
 use Rattle.rules.specs.declared.Lookup.TheVariants.{Entry, Nothing}
@@ -42,7 +41,7 @@ use Rattle.rules.proofs.Changing.{all_get}
 use Rattle.rules.proofs.FreeSlot.{VacantAt, vacant, vacant_at, vacant_lt}
 use Rattle.rules.proofs.Checked.{passed, sizes_passed, Common, common_passed, Lent, exact_lent, InRange, in_range}
 use Rattle.rules.proofs.LaidAt.{found_taken, memory_with, cache_with, stores_at, laid_at, Whole, Room, spot_laid, row_whole}
-use Rattle.rules.proofs.KeepsStore.{new, replaced-length, seen-length}
+use Rattle.rules.proofs.KeepsStore.{replaced-length, seen-length}
 use Rattle.rules.proofs.KeepsRest.{cut_mark}
 use Rattle.rules.proofs.Answers.{guard_accepted, carry_accepted, carry_nothing}
 

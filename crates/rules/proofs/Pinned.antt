@@ -2,11 +2,11 @@
 use mathlib.Core.Path.{◌≡◌, refl, sym, ap, ◌∙◌, subst}
 use mathlib.Core.Logic.{◌≢◌}
 use mathlib.Core.List.{List, [], ◌∷◌, ◌++◌}
-use Prim.Native.Nat.{ℕ, ◌+◌, ◌*◌, ◌-◌, ◌≤◌, ◌<◌}
+use Prim.Native.Nat.{ℕ, ◌+◌, ◌*◌, ◌≤◌, ◌<◌}
 use native.Mathlib.Omega.{arith}
 use native.Mathlib.Nat.{le_refl}
 use lib.ListN.{length, get_or}
-use Rattle.words.specs.Words.{words, numbers_to}
+use Rattle.words.specs.Words.{numbers_to}
 use Rattle.words.proofs.All.{All, done, also, all_map}
 use Rattle.words.proofs.Rising.{Below, in_below}
 use Rattle.rules.specs.declared.Geometry.{Geometry}
@@ -17,10 +17,10 @@ use Rattle.rules.specs.declared.State.TheVariants.{Clean, Dirty, Hidden, PreHidd
 use Rattle.rules.specs.declared.Lookup.TheVariants.{Entry, Nothing}
 use Rattle.rules.specs.Geometry.{home_start, home_words, checkpoint_start, checkpoint_words, backup_start, backup_words, mark_start, memory_words, home_block, checkpoint_block}
 use Rattle.rules.specs.TableWords.{word_of, says, lookup, entry_or, changed}
-use Rattle.rules.specs.Checkpoints.{begun, saved, other, mark_of, checkpoint_list}
+use Rattle.rules.specs.Checkpoints.{begun, saved, mark_of, checkpoint_list}
 use Rattle.rules.proofs.Clashes.{free_names}
 use Rattle.rules.proofs.TableWordLaws.{says_word, says_zero, names_word}
-use Rattle.rules.proofs.Finding.{Finds, end, finds, found_at, found_lowest, not_found}
+use Rattle.rules.proofs.Finding.{Finds, finds, found_at, found_lowest, not_found}
 use Rattle.rules.proofs.Changing.{changed_zero, changed_entry}
 use Rattle.rules.proofs.Saving.{mark_high}
 use Rattle.rules.proofs.KeepsStep.{front, front_run}

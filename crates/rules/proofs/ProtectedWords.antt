@@ -4,7 +4,7 @@ use mathlib.Core.Logic.{inl, inr, ◌↔◌}
 use mathlib.Core.Bool.{Bool, true, ◌||◌}
 use mathlib.Core.List.{List}
 use mathlib.Core.Option.{Option, some}
-use Prim.Native.Nat.{ℕ, zero, suc, ◌+◌, ◌*◌, ◌-◌, ◌≤◌, ◌<◌}
+use Prim.Native.Nat.{ℕ, zero, suc, ◌+◌, ◌*◌, ◌≤◌, ◌<◌}
 use native.Mathlib.Omega.{arith}
 use native.Mathlib.Nat.{not-suc-le-zero}
 use native.Mathlib.Decide.{ℕ_discrete}
@@ -17,7 +17,6 @@ use Rattle.rules.specs.Starts.{finished_in, saved_registers, table_in, saved_blo
 use Rattle.rules.proofs.Clashes.{false_true, and_left, and_right, or_true, or_left, or_right}
 use Rattle.rules.proofs.Protection.{Protected, reading, saving}
 use Rattle.rules.proofs.Saving.{Head, head_from, head_of, Reads, the_mark, the_backup, scheme}
-use Rattle.rules.proofs.Demand3.{back}
 
 within_is : (start count place : ℕ) → within start count place ≡ true → (start ≤ place) × (place < start + count)
 unfolding within

@@ -1,7 +1,7 @@
 -- Protection, once, over the place where a block is saved: stores that change no protected word leave every prefix recovering alike.
 use mathlib.Core.Path.{◌≡◌, ap, ◌∙◌}
 use mathlib.Core.List.{List}
-use Prim.Native.Nat.{ℕ, ◌+◌, ◌-◌, ◌≤◌, ◌<◌}
+use Prim.Native.Nat.{ℕ, ◌+◌, ◌≤◌, ◌<◌}
 use lib.ListN.{length, take}
 use Rattle.words.specs.Words.{word, words, Store, lay}
 use Rattle.words.proofs.All.{All, all_take}

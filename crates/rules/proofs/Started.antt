@@ -3,10 +3,10 @@ use mathlib.Core.Path.{◌≡◌, refl, sym, ap, ◌∙◌, subst}
 use mathlib.Core.Bool.{true, false, not}
 use mathlib.Core.List.{List, [], ◌∷◌}
 use mathlib.Core.Option.{Option, none, some}
-use Prim.Native.Nat.{ℕ, ◌-◌}
+use Prim.Native.Nat.{ℕ}
 use native.Mathlib.Nat.{suc-ne-zero}
 use borrow.Author.Tests.{not-false}
-use Rattle.words.specs.Words.{lay, number}
+use Rattle.words.specs.Words.{lay}
 use Rattle.rules.specs.declared.Geometry.{Geometry}
 use Rattle.rules.specs.declared.Backup.{Backup}
 use Rattle.rules.specs.declared.Number.TheVariants as No
@@ -16,7 +16,6 @@ use Rattle.rules.specs.Power.{carry, Outcome, whole, settle}
 use Rattle.rules.specs.Starts.{format_list, format_number, format_plan, finished_in, saved_registers, handed_out, recorded, table_in, sound, no_checkpoint, unsound, recover_number, recover_from, recover_plan}
 use Rattle.rules.specs.Calls.{format, recover, plan, call}
 use Rattle.rules.specs.PlainMachine.{Picture, Plain, formatted, saved_in, opened_from, opened}
-use Rattle.rules.proofs.Changing.{found}
 use Rattle.rules.proofs.Saving.{head_from, head_of, Kept}
 use Rattle.rules.proofs.Checked.{passed, sizes_passed, Lent}
 use Rattle.rules.proofs.Invariant.{Inv}

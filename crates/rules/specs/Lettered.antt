@@ -1,6 +1,6 @@
 -- The ten lettered cases of document 01 as a table: what the rules give, and what they must give. N = 2 and B = 1 unless said.
 use Rattle.std.specs.Prelude.{Bool, true, false, ◌&&◌, List, [], ◌∷◌, ◌++◌, ℕ, ◌*◌, eqb, replicate}
-use Rattle.words.specs.Words.{word, words, block_at, number}
+use Rattle.words.specs.Words.{word, block_at, number}
 use Rattle.rules.specs.declared.Geometry.{Geometry}
 use Rattle.rules.specs.declared.Backup.TheVariants.{A, B}
 use Rattle.rules.specs.declared.Phase.{Phase}

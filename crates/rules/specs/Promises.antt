@@ -2,7 +2,7 @@
 -- Their proofs are in proofs/Demand2.antt, Demand3.antt, Moves.antt, NoneFinished.antt and ShortStores.antt.
 use Rattle.std.specs.Prelude.{◌≡◌, ◌≢◌, ◌↔◌, List, map, ℕ, ◌+◌, ◌*◌, ◌≤◌, ◌<◌, min, length, get_or, set, take, drop, replicate}
 use Rattle.std.proofs.Math.Option.{none, some}
-use Rattle.words.specs.Words.{word, words, lay, number}
+use Rattle.words.specs.Words.{word, lay, number}
 use Rattle.rules.specs.declared.Geometry.{Geometry}
 use Rattle.rules.specs.declared.Backup.{Backup}
 use Rattle.rules.specs.declared.Backup.TheVariants.{B}
@@ -17,7 +17,7 @@ use Rattle.rules.specs.TableWords.{word_of, lookup, lowest_free, changed}
 use Rattle.rules.specs.Board.{Board, Volatile, sizes, phase_of, cache_of, table_of}
 use Rattle.rules.specs.Numbers.{number_of}
 use Rattle.rules.specs.Power.{Outcome, settle, stored}
-use Rattle.rules.specs.Loads.{in_memory, spot_in, spot_of, shows, block_in, seen, load_number}
+use Rattle.rules.specs.Loads.{in_memory, spot_in, spot_of, block_in, seen, load_number}
 use Rattle.rules.specs.Stores.{replaced, to, stores, move_in, slot_for, store_number, all, window_to, store_by}
 use Rattle.rules.specs.Checkpoints.{begun, saved, checkpoint_list, count_of, next_words}
 use Rattle.rules.specs.Sweeps.{lowest_clean, hidden}

@@ -7,7 +7,7 @@ use mathlib.Core.Option.{Option, none, some}
 use Prim.Native.Nat.{ℕ, ◌*◌}
 use native.Mathlib.Nat.{suc-ne-zero}
 use lib.ListN.{length}
-use Rattle.words.specs.Words.{words, lay, number, numbers}
+use Rattle.words.specs.Words.{words, lay, numbers}
 use Rattle.words.proofs.All.{All, done, also}
 use Rattle.rules.specs.declared.Geometry.{Geometry}
 use Rattle.rules.specs.declared.Backup.{Backup}

@@ -20,7 +20,6 @@ use Rattle.rules.specs.Calls.{Call, load, peek, store, begin, step, format, reco
 use Rattle.rules.specs.PlainMachine.{Picture, Plain, overlaid, laid_over, update, did, finish, has_mark, note}
 use Rattle.rules.specs.Runs.{Event, does, Run, after_format, from_some, promised, doing, advance, runs, NoFormat, a_load, a_peek, a_store, a_begin, a_step, a_recover, a_sweep, run_from}
 use Rattle.rules.specs.Promises.{RecoversTo, Demand3}
-use Rattle.rules.proofs.Checked.{passed}
 use Rattle.rules.proofs.Answers.{refused}
 use Rattle.rules.proofs.Invariant.{Inv, did_not}
 use Rattle.rules.proofs.LiveShown.{inv_shows, load_accepted, live_whole, kept_whole}

@@ -1,6 +1,6 @@
 -- A property of every element of a list.
 use mathlib.Core.List.{List, [], ◌∷◌, ◌++◌}
-use Prim.Native.Nat.{ℕ, zero, suc, ◌+◌, ◌-◌}
+use Prim.Native.Nat.{ℕ, zero, suc}
 use lib.ListN.{take, drop}
 
 pub data All {A : Type 0} (P : A → Type 0) : List A → Type 0 where

@@ -1,7 +1,7 @@
 -- Lists of stores whose places rise: what they store stands in the memory after them.
 use mathlib.Core.Path.{◌≡◌, sym, ◌∙◌, subst}
 use mathlib.Core.List.{List, [], ◌∷◌, ◌++◌}
-use Prim.Native.Nat.{ℕ, zero, suc, ◌+◌, ◌-◌, ◌≤◌, ◌<◌}
+use Prim.Native.Nat.{ℕ, zero, suc, ◌≤◌, ◌<◌}
 use native.Mathlib.Omega.{arith}
 use lib.ListN.{length, take, drop}
 use Rattle.words.specs.Words.{word, put, Store, lay}

@@ -1,4 +1,3 @@
-use Prim.Native.Nat.{◌-◌}
 use native.Mathlib.Omega.{arith}
 use Rattle.rules.specs.declared.Number.TheVariants as No
 use Rattle.checks.proofs.Passed.{lent_now, refusing}

@@ -1,6 +1,6 @@
 use Rattle.merges.proofs.Building.{merging_starts, merging_more, merging_all, merging_unread}
 use mathlib.Core.Path.{◌≡◌, ◌∙◌}
-use Prim.Native.Nat.{◌+◌, ◌-◌, min}
+use Prim.Native.Nat.{◌+◌, min}
 use native.Mathlib.Omega.{arith}
 use Rattle.words.specs.Words.{block_at}
 use Rattle.words.proofs.Blocks.{length_block}

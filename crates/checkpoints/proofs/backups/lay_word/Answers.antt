@@ -1,5 +1,4 @@
 use mathlib.Core.List.{map}
-use Prim.Native.Nat.{◌-◌}
 use native.Mathlib.Omega.{arith}
 use lib.ListN.{length-map}
 use Rattle.rules.specs.TableWords.{changed}

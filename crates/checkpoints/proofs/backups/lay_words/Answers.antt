@@ -1,6 +1,6 @@
 use mathlib.Core.Path.{refl, ap, ◌∙◌}
 use mathlib.Core.List.{map}
-use Prim.Native.Nat.{◌+◌, ◌-◌}
+use Prim.Native.Nat.{◌+◌}
 use native.Mathlib.Omega.{arith}
 use lib.ListN.{take, drop}
 use borrow.Author.Rules.{rules}

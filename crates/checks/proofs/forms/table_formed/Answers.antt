@@ -1,12 +1,11 @@
 use Rattle.checks.proofs.Flaws.{none_gathered, gathered}
 use Rattle.checks.proofs.Walking.{every_all}
 use Rattle.checks.proofs.Words.{column}
-use Rattle.checks.specs.Forms.{all_formed}
 use Rattle.checks.specs.Tables.{allowed_while}
 use Rattle.rules.specs.Numbers.{well_formed}
 use Rattle.rules.specs.TableWords.{every}
 use Rattle.rules.specs.declared.State.{State}
-use Rattle.std.proofs.Common.{◌-◌, Bool, sym, ap, ◌∙◌, arith}
+use Rattle.std.proofs.Common.{Bool, sym, ap, ◌∙◌, arith}
 use Rattle.checks.proofs.forms.table_formed.Goals as goal
 
 pub loop-slot-init : goal.loop-slot-init

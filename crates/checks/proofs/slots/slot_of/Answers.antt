@@ -1,5 +1,5 @@
 use Rattle.checks.proofs.Walking.{reached_first, reached_next, reached_here}
-use Rattle.std.proofs.Common.{◌-◌, sym, ◌∙◌}
+use Rattle.std.proofs.Common.{sym, ◌∙◌}
 use Rattle.checks.proofs.slots.slot_of.Goals as goal
 
 pub loop-slot-init : goal.loop-slot-init

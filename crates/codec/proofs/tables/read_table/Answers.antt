@@ -3,7 +3,6 @@ use Rattle.codec.proofs.WordBytes.{read_turn, all_read, table_bytes_back}
 use Rattle.words.specs.Words.{number_bytes}
 use lib.ListN.{length, length-set}
 use native.Mathlib.Omega.{arith}
-use Prim.Native.Nat.{◌-◌}
 use mathlib.Core.Path.{◌∙◌, ap}
 use Rattle.codec.proofs.tables.read_table.Goals as goal
 

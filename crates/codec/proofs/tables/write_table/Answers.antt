@@ -1,7 +1,6 @@
 use Rattle.codec.proofs.WordBytes.{write_turn}
 use Rattle.words.specs.Words.{number_bytes}
 use native.Mathlib.Omega.{arith}
-use Prim.Native.Nat.{◌-◌}
 use mathlib.Core.Path.{refl}
 use Rattle.codec.proofs.tables.write_table.Goals as goal
 

@@ -2,7 +2,6 @@ use Rattle.copies.proofs.Slots.{count_more, mul-sum}
 use Rattle.checks.proofs.Flaws.{none_gathered, gathered}
 use Rattle.checks.proofs.Walking.{every_all, formed_table}
 use Rattle.checks.proofs.Words.{column}
-use Rattle.checks.specs.Forms.{all_formed}
 use Rattle.checks.specs.Tables.{allowed_while}
 use Rattle.rules.specs.Checkpoints as R
 use Rattle.rules.specs.Numbers.{well_formed, allows}
@@ -11,7 +10,7 @@ use Rattle.rules.specs.declared.State.{State}
 use lib.Seq.{take_all}
 use lib.ListN.{length}
 use native.Mathlib.Omega.{arith}
-use Prim.Native.Nat.{ℕ, ◌-◌}
+use Prim.Native.Nat.{ℕ}
 use mathlib.Core.List.{List}
 use mathlib.Core.Bool.{Bool}
 use mathlib.Core.Path.{◌≡◌, refl, sym, ap, ◌∙◌}

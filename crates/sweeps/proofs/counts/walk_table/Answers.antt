@@ -1,7 +1,7 @@
 use mathlib.Core.Path.{refl, sym, ap, ◌∙◌}
 use mathlib.Core.Bool.{Bool}
 use mathlib.Core.List.{List}
-use Prim.Native.Nat.{ℕ, ◌-◌}
+use Prim.Native.Nat.{ℕ}
 use native.Mathlib.Omega.{arith}
 use lib.ListN.{length}
 use lib.Seq.{take_all}
@@ -10,7 +10,6 @@ use Rattle.rules.specs.TableWords.{every}
 use Rattle.rules.specs.Numbers.{well_formed}
 use Rattle.rules.specs.Sweeps.{clean_from}
 use Rattle.checks.specs.Tables.{allowed_while}
-use Rattle.checks.specs.Forms.{all_formed}
 use Rattle.checks.proofs.Words.{column}
 use Rattle.checks.proofs.Walking.{every_all}
 use Rattle.checks.proofs.Flaws.{none_gathered, gathered}
