@@ -4,8 +4,8 @@
 use board::{Answer, Recovery, begin, format, load, recover, step, store, sweep};
 use case::Case;
 use checks::numbers::number_of;
-use libc::{STDIN_FILENO, STDOUT_FILENO};
 use rules::{Controller, Number};
+use std::io::Stdout;
 use words::least;
 
 mod case;
@@ -110,23 +110,26 @@ fn prepare_memory(memory: &mut [u8], cache: &[u8], table: &mut [u64], case: Case
     checkpoint(memory, cache, table, running, &registers, p);
 }
 
-fn print(given: Given) {
+fn print(out: Stdout, given: Given) {
     let number = given.number;
-    io::print_decimal(STDOUT_FILENO, number_of(number));
-    io::write_all(STDOUT_FILENO, b" ");
-    io::print_decimal(STDOUT_FILENO, given.words as u64);
-    io::write_all(STDOUT_FILENO, b"\n");
+    streams::print_decimal(out, number_of(number));
+    streams::write_all(out, b" ");
+    streams::print_decimal(out, given.words as u64);
+    streams::write_all(out, b"\n");
 }
 
-fn run(memory: &mut [u8], cache: &mut [u8], table: &mut [u64], case: Case) {
+fn run(out: Stdout, memory: &mut [u8], cache: &mut [u8], table: &mut [u64], case: Case) {
     let mut bytes = [5u8; 64];
     let length = least(case.length, 64);
     prepare_memory(memory, cache, table, case);
-    print(repeat(memory, cache, table, case, &mut bytes[0..length]));
+    print(
+        out,
+        repeat(memory, cache, table, case, &mut bytes[0..length]),
+    );
 }
 
 // What is lent is exactly what the sizes ask for, as far as the arrays reach.
-fn lend(memory: &mut [u8], cache: &mut [u8], table: &mut [u64], case: Case) {
+fn lend(out: Stdout, memory: &mut [u8], cache: &mut [u8], table: &mut [u64], case: Case) {
     let controller = case.controller;
     let g = controller.geometry;
     let slots = g.slots as usize;
@@ -134,6 +137,7 @@ fn lend(memory: &mut [u8], cache: &mut [u8], table: &mut [u64], case: Case) {
     let cache_end = least(64 * slots, cache.len());
     let table_end = least(slots, table.len());
     run(
+        out,
         &mut memory[0..memory_end],
         &mut cache[0..cache_end],
         &mut table[0..table_end],
@@ -142,21 +146,23 @@ fn lend(memory: &mut [u8], cache: &mut [u8], table: &mut [u64], case: Case) {
 }
 
 // The arrays of the largest board that is measured: 4,096 blocks and 512 slots.
-fn measure(case: Case) {
+fn measure(out: Stdout, case: Case) {
     let mut memory = [0u8; 303240];
     let mut cache = [0u8; 32768];
     let mut table = [0u64; 512];
-    lend(&mut memory, &mut cache, &mut table, case);
+    lend(out, &mut memory, &mut cache, &mut table, case);
 }
 
-fn main() {
+fn main(rt: HostRuntime) {
+    let input = rt.stdin();
+    let out = rt.stdout();
     let mut cases = u64::MAX;
     while 0 < cases {
         let mut bytes = [0u8; 14];
-        if io::read_full(STDIN_FILENO, &mut bytes) < 14 {
+        if streams::read_full(input, &mut bytes) < 14 {
             return;
         }
-        measure(case::case_in(&bytes));
+        measure(out, case::case_in(&bytes));
         cases -= 1;
     }
 }

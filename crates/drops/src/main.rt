@@ -6,9 +6,9 @@ ghost use Rattle.std.specs.Prelude.{◌≡◌, ◌≤◌, true, length};
 use asking::{Asked, parse};
 use fields::length_of;
 use keeping::{drafted, no_registers, saved_after};
-use libc::STDIN_FILENO;
 use report::{end_line, joined, no_run, print_bad, print_field, print_run, print_summary};
 use rules::Geometry;
+use std::io::{Stdin, Stdout};
 use stops::{Panel, Plan, Saved, Wanted, act, came_back, plan_of};
 use trace::Allowance;
 use trace::turns::words_of;
@@ -32,8 +32,8 @@ fn stopped(panel: Panel) -> Rest {
     }
 }
 
-fn bad(panel: Panel, field: u64) -> Rest {
-    print_bad(field);
+fn bad(out: Stdout, panel: Panel, field: u64) -> Rest {
+    print_bad(out, field);
     stopped(panel)
 }
 
@@ -68,6 +68,7 @@ fn stops_of(plan: Plan) -> usize {
 
 // How many stops of the field deviate.
 fn try_stops(
+    out: Stdout,
     memory: &[u8; 5512],
     cache: &[u8; 1024],
     table: &[u64; 16],
@@ -82,11 +83,11 @@ fn try_stops(
     let mut p: usize = 0;
     while p < stops {
         let came = came_back(memory, cache, table, kept, draft, panel, plan, value, p);
-        run = joined(run, came);
+        run = joined(out, run, came);
         p += 1;
     }
-    print_run(run);
-    end_line();
+    print_run(out, run);
+    end_line(out);
     run.wrong
 }
 
@@ -148,6 +149,7 @@ fn counted(panel: Panel, registers: Wanted, stops: usize, wrong: u64) -> Panel {
 
 // A field: its stops, each on a copy, then its own call on the board.
 fn answered(
+    out: Stdout,
     memory: &mut [u8; 5512],
     cache: &mut [u8; 1024],
     table: &mut [u64; 16],
@@ -164,24 +166,27 @@ fn answered(
     let registers = drafted(memory, cache, table, draft, controller, plan, before);
     let stops = stops_of(plan);
     let ready = counted(panel, registers, stops, 0);
-    print_field(field, asked, plan.words, stops as u64);
-    let wrong = try_stops(memory, cache, table, kept, draft, ready, plan, value, stops);
+    print_field(out, field, asked, plan.words, stops as u64);
+    let wrong = try_stops(
+        out, memory, cache, table, kept, draft, ready, plan, value, stops,
+    );
     let told = counted(ready, registers, 0, wrong);
     carried(memory, cache, table, kept, draft, told, asked, value)
 }
 
 // Whether all of a value came. A length over 67 is wrong for every tag, and such a value isn't read.
-fn value_came(value: &mut [u8], len: usize) -> bool
+fn value_came(input: Stdin, value: &mut [u8], len: usize) -> bool
     ensures { result ≡ true → len ≤ length value.new }
 {
     if value.len() < len {
         return false;
     }
-    io::read_full(STDIN_FILENO, &mut value[0..len]) == len
+    streams::read_full(input, &mut value[0..len]) == len
 }
 
 // A field whose value came, or `bad`.
 fn parsed(
+    out: Stdout,
     memory: &mut [u8; 5512],
     cache: &mut [u8; 1024],
     table: &mut [u64; 16],
@@ -194,10 +199,10 @@ fn parsed(
 ) -> Rest {
     let asked = parse(tag, value);
     if is_bad(asked) {
-        return bad(panel, field);
+        return bad(out, panel, field);
     }
     let next = answered(
-        memory, cache, table, kept, draft, panel, field, asked, value,
+        out, memory, cache, table, kept, draft, panel, field, asked, value,
     );
     Rest {
         go: true,
@@ -207,6 +212,8 @@ fn parsed(
 
 // The value of a field is read, up to its length.
 fn valued(
+    input: Stdin,
+    out: Stdout,
     memory: &mut [u8; 5512],
     cache: &mut [u8; 1024],
     table: &mut [u64; 16],
@@ -218,10 +225,11 @@ fn valued(
     value: &mut [u8],
     len: usize,
 ) -> Rest {
-    if !value_came(value, len) {
-        return bad(panel, field);
+    if !value_came(input, value, len) {
+        return bad(out, panel, field);
     }
     parsed(
+        out,
         memory,
         cache,
         table,
@@ -236,6 +244,8 @@ fn valued(
 
 // One field of the trace. The end of the input between fields ends the run quietly, inside a field with `bad`.
 fn one(
+    input: Stdin,
+    out: Stdout,
     memory: &mut [u8; 5512],
     cache: &mut [u8; 1024],
     table: &mut [u64; 16],
@@ -246,16 +256,16 @@ fn one(
     value: &mut [u8; 67],
 ) -> Rest {
     let mut head = [0u8; 3];
-    let came = io::read_full(STDIN_FILENO, &mut head);
+    let came = streams::read_full(input, &mut head);
     if came == 0 {
         return stopped(panel);
     }
     if came < 3 {
-        return bad(panel, field);
+        return bad(out, panel, field);
     }
     let len = length_of(head[1], head[2]);
     valued(
-        memory, cache, table, kept, draft, panel, field, head[0], value, len,
+        input, out, memory, cache, table, kept, draft, panel, field, head[0], value, len,
     )
 }
 
@@ -280,7 +290,9 @@ fn first_panel() -> Panel {
     }
 }
 
-fn main() {
+fn main(rt: HostRuntime) {
+    let input = rt.stdin();
+    let out = rt.stdout();
     let mut memory = [0u8; 5512];
     let mut cache = [0u8; 1024];
     let mut table = [0u64; 16];
@@ -292,6 +304,8 @@ fn main() {
     while field < u64::MAX {
         field += 1;
         let rest = one(
+            input,
+            out,
             &mut memory,
             &mut cache,
             &mut table,
@@ -303,7 +317,7 @@ fn main() {
         );
         panel = rest.panel;
         if !rest.go {
-            print_summary(panel.tried, panel.wrong);
+            print_summary(out, panel.tried, panel.wrong);
             return;
         }
     }

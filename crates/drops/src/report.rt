@@ -1,7 +1,7 @@
 // What the program prints: a line for each field with its list and its stops in runs, and the summary.
 use crate::stops::Came;
 use asking::Asked;
-use libc::STDOUT_FILENO;
+use std::io::Stdout;
 
 // Stops in a row with the same outcome; `wrong` counts all that deviate so far.
 #[derive(Clone, Copy)]
@@ -37,34 +37,34 @@ fn code(came: Came) -> u8 {
     }
 }
 
-fn print_came(came: Came) {
+fn print_came(out: Stdout, came: Came) {
     match came {
-        Came::Kept => io::write_all(STDOUT_FILENO, b"kept"),
-        Came::Draft => io::write_all(STDOUT_FILENO, b"draft"),
-        Came::Old => io::write_all(STDOUT_FILENO, b"old"),
-        Came::New => io::write_all(STDOUT_FILENO, b"new"),
-        Came::Nothing => io::write_all(STDOUT_FILENO, b"none"),
-        Came::Wrong => io::write_all(STDOUT_FILENO, b"WRONG"),
+        Came::Kept => streams::write_all(out, b"kept"),
+        Came::Draft => streams::write_all(out, b"draft"),
+        Came::Old => streams::write_all(out, b"old"),
+        Came::New => streams::write_all(out, b"new"),
+        Came::Nothing => streams::write_all(out, b"none"),
+        Came::Wrong => streams::write_all(out, b"WRONG"),
     };
 }
 
-pub fn print_run(run: Run) {
+pub fn print_run(out: Stdout, run: Run) {
     if run.count == 0 {
         return;
     }
     if run.first {
-        io::write_all(STDOUT_FILENO, b": ");
+        streams::write_all(out, b": ");
     } else {
-        io::write_all(STDOUT_FILENO, b", ");
+        streams::write_all(out, b", ");
     }
     let came = run.came;
-    print_came(came);
-    io::write_all(STDOUT_FILENO, b" x");
-    io::print_decimal(STDOUT_FILENO, run.count);
+    print_came(out, came);
+    streams::write_all(out, b" x");
+    streams::print_decimal(out, run.count);
 }
 
 // The run with one more stop; a run that ends is printed.
-pub fn joined(run: Run, came: Came) -> Run {
+pub fn joined(out: Stdout, run: Run, came: Came) -> Run {
     let before = run.came;
     let mut wrong = run.wrong;
     if code(came) == 5 {
@@ -86,7 +86,7 @@ pub fn joined(run: Run, came: Came) -> Run {
             wrong: wrong,
         };
     }
-    print_run(run);
+    print_run(out, run);
     Run {
         came: came,
         count: 1,
@@ -95,42 +95,42 @@ pub fn joined(run: Run, came: Came) -> Run {
     }
 }
 
-fn print_name(asked: Asked) {
+fn print_name(out: Stdout, asked: Asked) {
     match asked {
-        Asked::Format(_, _) => io::write_all(STDOUT_FILENO, b" format "),
-        Asked::Store(_, _) => io::write_all(STDOUT_FILENO, b" store "),
-        Asked::Load(_, _, _) => io::write_all(STDOUT_FILENO, b" load "),
-        Asked::Begin(_) => io::write_all(STDOUT_FILENO, b" begin "),
-        Asked::Step(_) => io::write_all(STDOUT_FILENO, b" step "),
-        Asked::Allow(_) => io::write_all(STDOUT_FILENO, b" allow "),
-        Asked::Recover => io::write_all(STDOUT_FILENO, b" recover "),
-        Asked::Bad => io::write_all(STDOUT_FILENO, b" bad "),
+        Asked::Format(_, _) => streams::write_all(out, b" format "),
+        Asked::Store(_, _) => streams::write_all(out, b" store "),
+        Asked::Load(_, _, _) => streams::write_all(out, b" load "),
+        Asked::Begin(_) => streams::write_all(out, b" begin "),
+        Asked::Step(_) => streams::write_all(out, b" step "),
+        Asked::Allow(_) => streams::write_all(out, b" allow "),
+        Asked::Recover => streams::write_all(out, b" recover "),
+        Asked::Bad => streams::write_all(out, b" bad "),
     };
 }
 
 // The head of a field's line.
-pub fn print_field(field: u64, asked: Asked, words: usize, stops: u64) {
-    io::print_decimal(STDOUT_FILENO, field);
-    print_name(asked);
-    io::print_decimal(STDOUT_FILENO, words as u64);
-    io::write_all(STDOUT_FILENO, b" words ");
-    io::print_decimal(STDOUT_FILENO, stops);
-    io::write_all(STDOUT_FILENO, b" stops");
+pub fn print_field(out: Stdout, field: u64, asked: Asked, words: usize, stops: u64) {
+    streams::print_decimal(out, field);
+    print_name(out, asked);
+    streams::print_decimal(out, words as u64);
+    streams::write_all(out, b" words ");
+    streams::print_decimal(out, stops);
+    streams::write_all(out, b" stops");
 }
 
-pub fn end_line() {
-    io::write_all(STDOUT_FILENO, b"\n");
+pub fn end_line(out: Stdout) {
+    streams::write_all(out, b"\n");
 }
 
-pub fn print_bad(field: u64) {
-    io::write_all(STDOUT_FILENO, b"bad ");
-    io::print_decimal(STDOUT_FILENO, field);
-    end_line();
+pub fn print_bad(out: Stdout, field: u64) {
+    streams::write_all(out, b"bad ");
+    streams::print_decimal(out, field);
+    end_line(out);
 }
 
-pub fn print_summary(tried: u64, wrong: u64) {
-    io::print_decimal(STDOUT_FILENO, tried);
-    io::write_all(STDOUT_FILENO, b" stops tried, ");
-    io::print_decimal(STDOUT_FILENO, wrong);
-    io::write_all(STDOUT_FILENO, b" deviate from the expected\n");
+pub fn print_summary(out: Stdout, tried: u64, wrong: u64) {
+    streams::print_decimal(out, tried);
+    streams::write_all(out, b" stops tried, ");
+    streams::print_decimal(out, wrong);
+    streams::write_all(out, b" deviate from the expected\n");
 }

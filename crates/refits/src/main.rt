@@ -6,6 +6,7 @@ use expected::list_words;
 use images::{Image, image_of};
 use panel::{Call, Panel, after};
 use report::{Run, print_heading, print_run, print_summary};
+use std::io::Stdout;
 use stops::{Trial, alike, stopped};
 
 mod answers;
@@ -34,16 +35,16 @@ fn counted(tally: Tally, right: bool) -> Tally {
     }
 }
 
-fn print_trial(trial: Trial, run: Run) {
+fn print_trial(out: Stdout, trial: Trial, run: Run) {
     let panel = trial.panel;
     let controller = panel.controller;
     let call = trial.call;
     let phase = controller.phase;
-    print_run(call, phase, run);
+    print_run(out, call, phase, run);
 }
 
 // The run with one more stop; a run that ends is printed.
-fn joined(trial: Trial, run: Run, p: usize) -> Run {
+fn joined(out: Stdout, trial: Trial, run: Run, p: usize) -> Run {
     let before = run.stop;
     let stop = stopped(trial, p);
     let first = run.first;
@@ -54,7 +55,7 @@ fn joined(trial: Trial, run: Run, p: usize) -> Run {
             last: p,
         };
     }
-    print_trial(trial, run);
+    print_trial(out, trial, run);
     Run {
         stop: stop,
         first: p,
@@ -68,7 +69,7 @@ fn right_in(run: Run) -> bool {
 }
 
 // Every stop of one call.
-fn try_stops(trial: Trial, tally: Tally) -> Tally {
+fn try_stops(out: Stdout, trial: Trial, tally: Tally) -> Tally {
     let call = trial.call;
     let words = list_words(call);
     let mut run = Run {
@@ -80,50 +81,51 @@ fn try_stops(trial: Trial, tally: Tally) -> Tally {
     let mut p: usize = 0;
     while p < words {
         p += 1;
-        run = joined(trial, run, p);
+        run = joined(out, trial, run, p);
         counts = counted(counts, right_in(run));
     }
-    print_trial(trial, run);
+    print_trial(out, trial, run);
     counts
 }
 
 // A move up from the old form, then a move back from the new.
-fn try_moves(panel: Panel, before: Image, tally: Tally) -> Tally {
+fn try_moves(out: Stdout, panel: Panel, before: Image, tally: Tally) -> Tally {
     let up = Trial {
         panel: panel,
         call: Call::MoveUp,
         before: before,
     };
-    let counts = try_stops(up, tally);
+    let counts = try_stops(out, up, tally);
     let back = Trial {
         panel: after(panel, Call::MoveUp),
         call: Call::MoveBack,
         before: before,
     };
-    try_stops(back, counts)
+    try_stops(out, back, counts)
 }
 
-fn try_format(panel: Panel, before: Image, tally: Tally) -> Tally {
+fn try_format(out: Stdout, panel: Panel, before: Image, tally: Tally) -> Tally {
     let fitted = after(panel, Call::MoveUp);
     let trial = Trial {
         panel: with_other_sizes(fitted),
         call: Call::Format(136),
         before: before,
     };
-    try_stops(trial, tally)
+    try_stops(out, trial, tally)
 }
 
-fn main() {
+fn main(rt: HostRuntime) {
+    let out = rt.stdout();
     let stored = stored_board();
     let before = image_of(stored, 7);
     let first = running(stored);
     let second = writing(first);
     let third = off(second);
-    print_heading();
+    print_heading(out);
     let none = Tally { tried: 0, wrong: 0 };
-    let one = try_moves(first, before, none);
-    let two = try_moves(second, before, one);
-    let three = try_moves(third, before, two);
-    let all = try_format(first, before, three);
-    print_summary(all.tried, all.wrong);
+    let one = try_moves(out, first, before, none);
+    let two = try_moves(out, second, before, one);
+    let three = try_moves(out, third, before, two);
+    let all = try_format(out, first, before, three);
+    print_summary(out, all.tried, all.wrong);
 }

@@ -5,7 +5,7 @@ ghost use Rattle.std.specs.Prelude.{◌≡◌, ◌≤◌, length};
 ghost use Rattle.lending.specs.Lending.{Arrays};
 
 use fields::length_of;
-use libc::{STDIN_FILENO, STDOUT_FILENO};
+use std::io::{Stdin, Stdout};
 use trace::printing::put_bad;
 use trace::{Held, take_turn};
 
@@ -26,16 +26,17 @@ fn stopped(held: Held, left: u64) -> Rest {
 }
 
 // A short field.
-fn bad(held: Held, field: u64, left: u64, line: &mut [u8]) -> Rest
+fn bad(out: Stdout, held: Held, field: u64, left: u64, line: &mut [u8]) -> Rest
     requires { 640 ≡ length line.old }
 {
     let end = put_bad(line, field);
-    io::write_all(STDOUT_FILENO, &line[0..end]);
+    streams::write_all(out, &line[0..end]);
     stopped(held, left)
 }
 
 // The field's own turn, with its value read.
 fn answered(
+    out: Stdout,
     memory: &mut [u8],
     cache: &mut [u8],
     table: &mut [u64],
@@ -50,7 +51,7 @@ fn answered(
 {
     let turn = take_turn(memory, cache, table, held, field, tag, value, line);
     let end = turn.length;
-    io::write_all(STDOUT_FILENO, &line[0..end]);
+    streams::write_all(out, &line[0..end]);
     let go = turn.go;
     let after = turn.held;
     Rest {
@@ -62,6 +63,8 @@ fn answered(
 
 // The field with its head read. A length over 67 is wrong for every tag, and such a value isn't read.
 fn valued(
+    input: Stdin,
+    out: Stdout,
     memory: &mut [u8],
     cache: &mut [u8],
     table: &mut [u64],
@@ -76,16 +79,17 @@ fn valued(
     requires { Arrays memory.old cache.old table.old × (640 ≡ length line.old) }
 {
     if value.len() < len {
-        return bad(held, field, left, line);
+        return bad(out, held, field, left, line);
     }
     if left < len as u64 {
-        return bad(held, field, left, line);
+        return bad(out, held, field, left, line);
     }
     let after = left - (len as u64);
-    if io::read_full(STDIN_FILENO, &mut value[0..len]) != len {
-        return bad(held, field, 0, line);
+    if streams::read_full(input, &mut value[0..len]) != len {
+        return bad(out, held, field, 0, line);
     }
     answered(
+        out,
         memory,
         cache,
         table,
@@ -100,6 +104,8 @@ fn valued(
 
 // One field of the trace. The trace's end between fields ends the run quietly, inside a field with `bad`.
 fn one(
+    input: Stdin,
+    out: Stdout,
     memory: &mut [u8],
     cache: &mut [u8],
     table: &mut [u64],
@@ -115,25 +121,27 @@ fn one(
         return stopped(held, 0);
     }
     if left < 3 {
-        return bad(held, field, left, line);
+        return bad(out, held, field, left, line);
     }
     let after = left - 3;
     let mut head = [0u8; 3];
-    let came = io::read_full(STDIN_FILENO, &mut head);
+    let came = streams::read_full(input, &mut head);
     if came == 0 {
         return stopped(held, 0);
     }
     if came < 3 {
-        return bad(held, field, 0, line);
+        return bad(out, held, field, 0, line);
     }
     let len = length_of(head[1], head[2]);
     valued(
-        memory, cache, table, held, field, head[0], len, after, value, line,
+        input, out, memory, cache, table, held, field, head[0], len, after, value, line,
     )
 }
 
 // A trace of at most `limit` bytes on a bench whose arrays are all zero; returns how many of them aren't read.
 pub fn run(
+    input: Stdin,
+    out: Stdout,
     memory: &mut [u8; 5512],
     cache: &mut [u8; 1024],
     table: &mut [u64; 16],
@@ -147,7 +155,7 @@ pub fn run(
     while field < u64::MAX {
         field += 1;
         let rest = one(
-            memory, cache, table, held, field, left, &mut value, &mut line,
+            input, out, memory, cache, table, held, field, left, &mut value, &mut line,
         );
         left = rest.left;
         if !rest.go {

@@ -5,6 +5,7 @@ use crate::print;
 use crate::text::{argument, named, short_at, size_at};
 use rules::{Backup, Controller, Geometry, Phase};
 use starts::formats::clear_table;
+use std::io::Stdout;
 use words::lay_number;
 
 // The lengths lent: bytes of the memory, bytes of CACHE, words of the table.
@@ -150,7 +151,7 @@ fn with_finished(controller: Controller, finished: Backup) -> Controller {
 }
 
 // The record that a line sets, from the one before.
-fn set_record(controller: Controller, line: &[u8]) -> Controller {
+fn set_record(out: Stdout, controller: Controller, line: &[u8]) -> Controller {
     if named(line, b"sizes") {
         return with_sizes(controller, sizes_in(line));
     }
@@ -166,11 +167,12 @@ fn set_record(controller: Controller, line: &[u8]) -> Controller {
     if named(line, b"off") {
         return with_phase(controller, Phase::Off);
     }
-    print::text(b"  unknown\n");
+    print::text(out, b"  unknown\n");
     controller
 }
 
 pub fn set(
+    out: Stdout,
     memory: &mut [u8],
     cache: &mut [u8],
     table: &mut [u64],
@@ -198,6 +200,6 @@ pub fn set(
     }
     Bench {
         lent: lent,
-        controller: set_record(controller, line),
+        controller: set_record(out, controller, line),
     }
 }

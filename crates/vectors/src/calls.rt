@@ -1,13 +1,15 @@
 // The calls of the board, made by a line of the case file on what is lent.
 use crate::bench::{count_up, sizes_in};
 use crate::text::{byte_at, named, size_at};
-use crate::{forms, print, wiring};
+use crate::{new_form, print, wiring};
 use board::{Answer, Controller};
 use checks::numbers::number_of;
+use std::io::Stdout;
 use words::least;
 
 // The companion's number, then the store.
 fn store_both(
+    out: Stdout,
     memory: &mut [u8],
     cache: &mut [u8],
     table: &mut [u64],
@@ -19,13 +21,14 @@ fn store_both(
     let offset = size_at(line, 2);
     let p = size_at(line, 5);
     let number = board::store_number(memory, cache, table, controller, block, offset, bytes);
-    print::spaced(number_of(number));
-    print::text(b",");
+    print::spaced(out, number_of(number));
+    print::text(out, b",");
     board::store(memory, cache, table, controller, block, offset, bytes, p)
 }
 
 // The bytes, the registers and the destination are cut from `space`, which has one byte more than the board takes.
 fn store(
+    out: Stdout,
     memory: &mut [u8],
     cache: &mut [u8],
     table: &mut [u64],
@@ -35,7 +38,7 @@ fn store(
 ) -> Answer {
     let len = least(size_at(line, 3), space.len());
     count_up(space, 1, byte_at(line, 4));
-    store_both(memory, cache, table, controller, line, &space[0..len])
+    store_both(out, memory, cache, table, controller, line, &space[0..len])
 }
 
 fn begin(
@@ -65,6 +68,7 @@ fn sweep(
 }
 
 fn recover(
+    out: Stdout,
     memory: &[u8],
     cache: &[u8],
     table: &mut [u64],
@@ -74,7 +78,7 @@ fn recover(
     let g = sizes_in(line);
     let recovery = board::recover(memory, cache, table, controller, g);
     let registers = recovery.registers;
-    print::existence(registers);
+    print::existence(out, registers);
     recovery.answer
 }
 
@@ -86,10 +90,11 @@ pub fn is_call(line: &[u8]) -> bool {
         || named(line, b"sweep")
         || named(line, b"format")
         || named(line, b"recover")
-        || forms::is_call(line)
+        || new_form::is_call(line)
 }
 
 pub fn answer_to(
+    out: Stdout,
     memory: &mut [u8],
     cache: &mut [u8],
     table: &mut [u64],
@@ -98,7 +103,7 @@ pub fn answer_to(
     space: &mut [u8],
 ) -> Answer {
     if named(line, b"store") {
-        return store(memory, cache, table, controller, line, space);
+        return store(out, memory, cache, table, controller, line, space);
     }
     if named(line, b"wire") {
         return wiring::write(memory, cache, table, controller, line);
@@ -121,13 +126,14 @@ pub fn answer_to(
         return board::format(memory, cache, table, controller, g, fill, p);
     }
     if named(line, b"recover") {
-        return recover(memory, cache, table, controller, line);
+        return recover(out, memory, cache, table, controller, line);
     }
-    forms::answer_to(memory, cache, table, controller, line)
+    new_form::answer_to(out, memory, cache, table, controller, line)
 }
 
 // The number, then the destination, which holds the byte dd before.
 fn load(
+    out: Stdout,
     memory: &[u8],
     cache: &[u8],
     table: &[u64],
@@ -148,24 +154,31 @@ fn load(
         offset,
         &mut space[0..len],
     );
-    print::spaced(number_of(number));
+    print::spaced(out, number_of(number));
     if 0 < len {
-        print::text(b" ");
+        print::text(out, b" ");
     }
-    print::hex(&space[0..len]);
+    print::hex(out, &space[0..len]);
 }
 
-fn peek<'a>(memory: &'a [u8], cache: &'a [u8], table: &[u64], controller: Controller, line: &[u8]) {
+fn peek<'a>(
+    out: Stdout,
+    memory: &'a [u8],
+    cache: &'a [u8],
+    table: &[u64],
+    controller: Controller,
+    line: &[u8],
+) {
     let block = size_at(line, 1);
     let number = board::peek_number(memory, cache, table, controller, block);
-    print::spaced(number_of(number));
+    print::spaced(out, number_of(number));
     let part = board::peek(memory, cache, table, controller, block);
-    print::ends(part);
+    print::ends(out, part);
 }
 
-fn registers(controller: Controller) {
+fn registers(out: Stdout, controller: Controller) {
     let bytes = controller.registers;
-    print::words_from(&bytes, 0, 8);
+    print::words_from(out, &bytes, 0, 8);
 }
 
 pub fn is_reading(line: &[u8]) -> bool {
@@ -179,6 +192,7 @@ pub fn is_reading(line: &[u8]) -> bool {
 
 // The lines that change nothing.
 pub fn read<'a>(
+    out: Stdout,
     memory: &'a [u8],
     cache: &'a [u8],
     table: &[u64],
@@ -187,21 +201,21 @@ pub fn read<'a>(
     space: &mut [u8],
 ) {
     if named(line, b"load") {
-        return load(memory, cache, table, controller, line, space);
+        return load(out, memory, cache, table, controller, line, space);
     }
     if named(line, b"peek") {
-        return peek(memory, cache, table, controller, line);
+        return peek(out, memory, cache, table, controller, line);
     }
     if named(line, b"reading") {
-        return wiring::read(memory, cache, table, controller, line);
+        return wiring::read(out, memory, cache, table, controller, line);
     }
     if named(line, b"registers") {
-        return registers(controller);
+        return registers(out, controller);
     }
     let start = size_at(line, 1);
     let count = size_at(line, 2);
     if named(line, b"memory") {
-        return print::words_from(memory, start, count);
+        return print::words_from(out, memory, start, count);
     }
-    print::words_from(cache, start, count);
+    print::words_from(out, cache, start, count);
 }

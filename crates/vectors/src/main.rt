@@ -4,31 +4,32 @@
 use bench::Bench;
 use board::Answer;
 use checks::numbers::number_of;
-use libc::STDIN_FILENO;
 use rules::Geometry;
+use std::io::Stdout;
 use words::least;
 
 mod bench;
 mod calls;
-mod forms;
+mod new_form;
 mod print;
 mod text;
 mod wiring;
 
 // The number, the words stored, the record and the table.
-fn outcome(answer: Answer, table: &[u64]) {
+fn outcome(out: Stdout, answer: Answer, table: &[u64]) {
     let number = answer.number;
     let controller = answer.controller;
-    print::spaced(number_of(number));
-    print::spaced(answer.words as u64);
-    print::text(b" |");
-    print::record(controller);
-    print::text(b" |");
-    print::table_words(table);
+    print::spaced(out, number_of(number));
+    print::spaced(out, answer.words as u64);
+    print::text(out, b" |");
+    print::record(out, controller);
+    print::text(out, b" |");
+    print::table_words(out, table);
 }
 
 // A call on what is lent.
 fn call(
+    out: Stdout,
     memory: &mut [u8],
     cache: &mut [u8],
     table: &mut [u64],
@@ -42,6 +43,7 @@ fn call(
     let cache_end = least(lent.cache, cache.len());
     let table_end = least(lent.table, table.len());
     let answer = calls::answer_to(
+        out,
         &mut memory[0..memory_end],
         &mut cache[0..cache_end],
         &mut table[0..table_end],
@@ -49,7 +51,7 @@ fn call(
         line,
         space,
     );
-    outcome(answer, &table[0..table_end]);
+    outcome(out, answer, &table[0..table_end]);
     let after = answer.controller;
     Bench {
         lent: lent,
@@ -58,6 +60,7 @@ fn call(
 }
 
 fn read<'a>(
+    out: Stdout,
     memory: &'a [u8],
     cache: &'a [u8],
     table: &[u64],
@@ -71,6 +74,7 @@ fn read<'a>(
     let cache_end = least(lent.cache, cache.len());
     let table_end = least(lent.table, table.len());
     calls::read(
+        out,
         &memory[0..memory_end],
         &cache[0..cache_end],
         &table[0..table_end],
@@ -82,6 +86,7 @@ fn read<'a>(
 
 // After a call the words of the memory that it changed, and those of CACHE.
 fn turn(
+    out: Stdout,
     memory: &mut [u8; 680],
     cache: &mut [u8; 320],
     table: &mut [u64; 5],
@@ -89,8 +94,8 @@ fn turn(
     line: &[u8],
 ) -> Bench {
     let mut space = [0u8; 65];
-    print::text(line);
-    print::text(b"\n");
+    print::text(out, line);
+    print::text(out, b"\n");
     if text::is_note(line) {
         return bench;
     }
@@ -98,22 +103,22 @@ fn turn(
         let lent = bench.lent;
         let memory_before = *memory;
         let cache_before = *cache;
-        print::text(b" ");
-        let next = call(memory, cache, table, bench, line, &mut space);
-        print::text(b" |");
-        print::changes(&memory_before, memory, lent.memory);
-        print::text(b" |");
-        print::changes(&cache_before, cache, lent.cache);
-        print::text(b"\n");
+        print::text(out, b" ");
+        let next = call(out, memory, cache, table, bench, line, &mut space);
+        print::text(out, b" |");
+        print::changes(out, &memory_before, memory, lent.memory);
+        print::text(out, b" |");
+        print::changes(out, &cache_before, cache, lent.cache);
+        print::text(out, b"\n");
         return next;
     }
     if calls::is_reading(line) {
-        print::text(b" ");
-        read(memory, cache, table, bench, line, &mut space);
-        print::text(b"\n");
+        print::text(out, b" ");
+        read(out, memory, cache, table, bench, line, &mut space);
+        print::text(out, b"\n");
         return bench;
     }
-    bench::set(memory, cache, table, bench, line)
+    bench::set(out, memory, cache, table, bench, line)
 }
 
 fn no_board() -> Bench {
@@ -124,7 +129,7 @@ fn no_board() -> Bench {
 }
 
 // Every line in turn, on one board of up to 85 words, with up to 5 slots.
-fn run(text: &[u8]) {
+fn run(out: Stdout, text: &[u8]) {
     let mut memory = [0u8; 680];
     let mut cache = [0u8; 320];
     let mut table = [0u64; 5];
@@ -133,6 +138,7 @@ fn run(text: &[u8]) {
     while start < text.len() {
         let end = text::line_end(text, start);
         state = turn(
+            out,
             &mut memory,
             &mut cache,
             &mut table,
@@ -143,9 +149,13 @@ fn run(text: &[u8]) {
     }
 }
 
-fn main() {
-    // 65,536 bytes, more than the case file has
-    let mut input = io::large_buffer();
-    let got = io::read_full(STDIN_FILENO, &mut input);
-    run(&input[0..got]);
+// 65,536 bytes, more than the case file has
+fn large_buffer() -> [u8; 65536] {
+    [0; 65536]
+}
+
+fn main(rt: HostRuntime) {
+    let mut input = large_buffer();
+    let got = streams::read_full(rt.stdin(), &mut input);
+    run(rt.stdout(), &input[0..got]);
 }

@@ -2,6 +2,7 @@
 use crate::print;
 use crate::text::{argument, short_at, size_at};
 use board::{Answer, Controller};
+use std::io::Stdout;
 use wires::{Class, Found, Reading, Wire};
 
 fn wire_in(line: &[u8]) -> Wire {
@@ -24,36 +25,43 @@ pub fn write(
     wires::write(memory, cache, table, controller, block, wire_in(line), p)
 }
 
-fn flag(value: bool) {
+fn flag(out: Stdout, value: bool) {
     if value {
-        return print::text(b" 1");
+        return print::text(out, b" 1");
     }
-    print::text(b" 0");
+    print::text(out, b" 0");
 }
 
-fn class_name(class: Class) {
+fn class_name(out: Stdout, class: Class) {
     match class {
-        Class::Break => print::text(b" break"),
-        Class::Weak => print::text(b" weak"),
-        Class::Healthy => print::text(b" healthy"),
-        Class::Short => print::text(b" short"),
-        Class::Test => print::text(b" test"),
+        Class::Break => print::text(out, b" break"),
+        Class::Weak => print::text(out, b" weak"),
+        Class::Healthy => print::text(out, b" healthy"),
+        Class::Short => print::text(out, b" short"),
+        Class::Test => print::text(out, b" test"),
     }
 }
 
 // The number, then the current, the latch, the test and the class where there is a record.
-pub fn read(memory: &[u8], cache: &[u8], table: &[u64], controller: Controller, line: &[u8]) {
+pub fn read(
+    out: Stdout,
+    memory: &[u8],
+    cache: &[u8],
+    table: &[u64],
+    controller: Controller,
+    line: &[u8],
+) {
     let block = size_at(line, 1);
     let reading = wires::read(memory, cache, table, controller, block);
-    print::spaced(wires::number_of(reading));
+    print::spaced(out, wires::number_of(reading));
     let Reading::Block(found) = reading else {
         return;
     };
     let Found::Says { wire, class } = found else {
         return;
     };
-    print::spaced(wire.current as u64);
-    flag(wire.latch);
-    flag(wire.test);
-    class_name(class);
+    print::spaced(out, wire.current as u64);
+    flag(out, wire.latch);
+    flag(out, wire.test);
+    class_name(out, class);
 }

@@ -3,6 +3,7 @@ use crate::bench::sizes_in;
 use crate::print;
 use crate::text::{byte_at, named, size_at};
 use board::{Answer, Controller};
+use std::io::Stdout;
 
 pub fn is_call(line: &[u8]) -> bool {
     named(line, b"newformat")
@@ -12,6 +13,7 @@ pub fn is_call(line: &[u8]) -> bool {
 }
 
 fn recover(
+    out: Stdout,
     memory: &[u8],
     cache: &[u8],
     table: &mut [u64],
@@ -21,11 +23,12 @@ fn recover(
     let g = sizes_in(line);
     let recovery = header::recover(memory, cache, table, controller, g);
     let registers = recovery.registers;
-    print::existence(registers);
+    print::existence(out, registers);
     recovery.answer
 }
 
 pub fn answer_to(
+    out: Stdout,
     memory: &mut [u8],
     cache: &[u8],
     table: &mut [u64],
@@ -39,7 +42,7 @@ pub fn answer_to(
         return header::format(memory, cache, table, controller, g, fill, p);
     }
     if named(line, b"newrecover") {
-        return recover(memory, cache, table, controller, line);
+        return recover(out, memory, cache, table, controller, line);
     }
     let p = size_at(line, 3);
     if named(line, b"up") {

@@ -1,0 +1,10 @@
+use lib.ListN.{length}
+use Prim.Native.Nat.{◌-◌, ◌≤◌}
+use mathlib.Core.Path.{◌≡◌}
+use Rattle.cost.proofs.case.take_table.Given as goal
+
+abbrev pub invariant-loop-slot : goal.invariant-loop-slot
+invariant-loop-slot l = (length l.table ≡ length l.initial.table) × (l.end ≤ length l.initial.table) × (l.end ≤ length l.kept) × (l.slot ≤ l.end)
+
+abbrev pub decreases-loop-slot : goal.decreases-loop-slot
+decreases-loop-slot l = l.end - l.slot
