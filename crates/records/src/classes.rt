@@ -4,6 +4,7 @@ ghost use Rattle.records.specs.Classes.{first_sheet, class_in, class_of};
 
 use crate::{Class, Wire};
 
+#[tactic(auto, unfolding(crate::specs::Classes::class_in))]
 pub fn class_of_current(current: u16) -> Class
     ensures { result ≡ class_in first_sheet current }
 {
