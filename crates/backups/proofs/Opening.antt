@@ -3,7 +3,7 @@ use mathlib.Core.Path.{◌≡◌, sym, ap, ◌∙◌}
 use mathlib.Core.Logic.{◌≢◌}
 use mathlib.Core.Bool.{Bool, true, false, cond}
 use mathlib.Core.List.{List}
-use mathlib.Core.Option.{none, some}
+use Rattle.std.specs.Prelude.{Option, None, Some}
 use Prim.Native.Nat.{ℕ, ◌+◌, ◌*◌, ◌-◌, ◌≤◌}
 use native.Mathlib.Omega.{arith}
 use native.Mathlib.Nat.{add-zero}
@@ -21,40 +21,38 @@ use Rattle.rules.specs.declared.Registers.TheVariants.{Saved, Absent}
 use Rattle.rules.specs.declared.Recovery.{Recovery}
 use Rattle.rules.specs.Geometry.{backup_start, backup_words, mark_start, memory_words}
 use Rattle.rules.specs.Starts.{finished_by, has_registers, mark_in, finished_in, registers_in, saved_registers, table_in, sound, recorded, registers_of}
-use Rattle.backups.specs.declared.Marked.{Marked}
-use Rattle.backups.specs.Marked.{backup_of}
 use Rattle.backups.specs.Records.{started_of, opened_of, opened_recovery, refused_recovery, Opens}
 
 -- ---- what a mark says
 
-pub marked_1 : (mark : ℕ) → mark ≡ 1 → some A ≡ finished_by mark
+pub marked_1 : (mark : ℕ) → mark ≡ 1 → Some A ≡ finished_by mark
 unfolding finished_by
 marked_1 mark e = rw e
 
-pub marked_2 : (mark : ℕ) → mark ≡ 2 → some B ≡ finished_by mark
+pub marked_2 : (mark : ℕ) → mark ≡ 2 → Some B ≡ finished_by mark
 unfolding finished_by
 marked_2 mark e = rw e
 
-pub marked_3 : (mark : ℕ) → mark ≡ 3 → some A ≡ finished_by mark
+pub marked_3 : (mark : ℕ) → mark ≡ 3 → Some A ≡ finished_by mark
 unfolding finished_by
 marked_3 mark e = rw e
 
-pub marked_else : (mark : ℕ) → mark ≢ 1 → mark ≢ 2 → mark ≢ 3 → none ≡ finished_by mark
+pub marked_else : (mark : ℕ) → mark ≢ 1 → mark ≢ 2 → mark ≢ 3 → None ≡ finished_by mark
 unfolding finished_by
 marked_else mark a b c = rw (ne_eqb mark 1 a, ne_eqb mark 2 b, ne_eqb mark 3 c)
 
-pub without_registers : (mark : ℕ) (bytes : List ℕ) → mark ≡ 3 → registers_of Absent bytes ≡ cond (has_registers mark) (some bytes) none
+pub without_registers : (mark : ℕ) (bytes : List ℕ) → mark ≡ 3 → registers_of Absent bytes ≡ cond (has_registers mark) (Some bytes) None
 unfolding has_registers
 without_registers mark bytes e = rw e
 
-pub with_registers : (mark : ℕ) (bytes : List ℕ) → mark ≢ 3 → registers_of Saved bytes ≡ cond (has_registers mark) (some bytes) none
+pub with_registers : (mark : ℕ) (bytes : List ℕ) → mark ≢ 3 → registers_of Saved bytes ≡ cond (has_registers mark) (Some bytes) None
 unfolding has_registers
 with_registers mark bytes ne = rw (ne_eqb mark 3 ne)
 
 -- the mark of a memory names what the test of it finds
-pub finished_is : (g : Geometry) (m : List ℕ) {mark : ℕ} (found found' : Marked) → mark ≡ mark_in g m → backup_of found ≡ finished_by mark → found ≡ found' → finished_in g m ≡ backup_of found'
+pub finished_is : (g : Geometry) (m : List ℕ) {mark : ℕ} (found found' : Option Backup) → mark ≡ mark_in g m → found ≡ finished_by mark → found ≡ found' → finished_in g m ≡ found'
 unfolding finished_in
-finished_is g m found found' e q y = ap finished_by (sym e) ∙ sym q ∙ ap backup_of y
+finished_is g m found found' e q y = ap finished_by (sym e) ∙ sym q ∙ y
 
 -- ---- parts of the memory
 
@@ -71,7 +69,7 @@ module _ (m : List ℕ) (a : ℕ) where
     unfolding table_in
     table_in_lem = ap (λ (z : List ℕ). numbers z 8 g.slots) (tail_part (8 * a) m) ∙ numbers_of_part a g.slots 8 m ∙ ap (λ (z : ℕ). numbers m (z + 8) g.slots) e
 
-    pub registers_in_lem : (registers : Registers) → ((bytes : List ℕ) → registers_of registers bytes ≡ cond (has_registers (mark_in g m)) (some bytes) none)
+    pub registers_in_lem : (registers : Registers) → ((bytes : List ℕ) → registers_of registers bytes ≡ cond (has_registers (mark_in g m)) (Some bytes) None)
         → registers_of registers (words from 0 8) ≡ saved_registers g m backup
     unfolding saved_registers registers_in
     registers_in_lem registers x =

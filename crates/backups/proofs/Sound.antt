@@ -3,7 +3,7 @@ use mathlib.Core.Path.{◌≡◌, refl, sym, ap, ◌∙◌}
 use mathlib.Core.Logic.{◌≢◌}
 use mathlib.Core.Bool.{Bool, true, false, not, cond, ◌&&◌, ◌||◌}
 use mathlib.Core.List.{List, [], ◌∷◌}
-use mathlib.Core.Option.{Option, none, some}
+use Rattle.std.specs.Prelude.{Option, None, Some}
 use Prim.Native.Nat.{ℕ, zero, suc, ◌+◌, ◌-◌, ◌/◌, ◌%◌, ◌≤◌, ◌<◌}
 use native.Mathlib.Omega.{arith}
 use native.Mathlib.Nat.{add-zero, zero-add}
@@ -18,9 +18,8 @@ use Rattle.words.proofs.Laying.{paste_turn, copy_whole}
 use Rattle.rules.specs.declared.Geometry.{Geometry}
 use Rattle.rules.specs.declared.State.{State}
 use Rattle.rules.specs.declared.State.TheVariants.{Clean, Dirty, Hidden, PreHidden, PreDirty}
-use Rattle.rules.specs.declared.Lookup.{Lookup}
-use Rattle.rules.specs.declared.Lookup.TheVariants.{Entry, Nothing}
-use Rattle.rules.specs.TableWords.{Says, free, names, code_of, state_for, says_of, says, one_on, lookup_by, lookup, is_nothing, new_to, distinct, every}
+use Rattle.rules.specs.declared.Entry.{Entry}
+use Rattle.rules.specs.TableWords.{Says, free, names, code_of, state_for, says_of, says, entry_at, one_on, lookup_by, lookup, is_nothing, new_to, distinct, every}
 use Rattle.rules.specs.Numbers.{well_said, well_formed}
 use Rattle.rules.specs.Starts.{only_clean, sound}
 use Rattle.rules.proofs.Clashes.{false_true, and_left, and_right}
@@ -51,7 +50,7 @@ only_clean_lem PreHidden false = refl
 only_clean_lem PreDirty true = refl
 only_clean_lem PreDirty false = refl
 
-one_is_clean : state_for 1 ≡ some Clean
+one_is_clean : state_for 1 ≡ Some Clean
 unfolding state_for
 one_is_clean = refl
 
@@ -60,15 +59,15 @@ unfolding well_formed well_said says says_of
 clean_is g w ne = rw (ne_eqb w 0 ne) (go (state_for (w % 256)) refl)
   where
     go : (o : Option State) → state_for (w % 256) ≡ o → eqb (w % 256) 1 && ltb (w / 256) g.blocks ≡ well_said only_clean g (says_of (w / 256) o)
-    go none q = odd (ℕ_discrete (w % 256) 1)
+    go None q = odd (ℕ_discrete (w % 256) 1)
       where
         odd : Dec (w % 256 ≡ 1) → eqb (w % 256) 1 && ltb (w / 256) g.blocks ≡ false
         odd (yes e) = absurd (none_clean (sym q ∙ ap state_for e ∙ one_is_clean))
           where
-            none_clean : none ≡ some Clean → ⊥
+            none_clean : None ≡ Some Clean → ⊥
             none_clean z = let y : ◌≡◌ {A = ℕ} 0 1 = cc in omega arith
         odd (no e) = rw (ne_eqb (w % 256) 1 e)
-    go (some state) q = rw (code_state (w % 256) state q) (only_clean_lem state (ltb (w / 256) g.blocks))
+    go (Some state) q = rw (code_state (w % 256) state q) (only_clean_lem state (ltb (w / 256) g.blocks))
 
 pub record Names (g : Geometry) (w : ℕ) : Type 0 where
   pub entry : says w ≡ names (w / 256) Clean
@@ -89,10 +88,10 @@ named_low g w e ne h = let b : w / 256 < g.blocks = (clean_names g w e ne).below
 
 -- ---- the set holds the blocks of the words after
 
-nothing_on : (found : Lookup) → is_nothing (one_on found) ≡ is_nothing found
+nothing_on : (found : Option Entry) → is_nothing (one_on found) ≡ is_nothing found
 unfolding is_nothing one_on
-nothing_on (Entry slot state) = refl
-nothing_on Nothing = refl
+nothing_on (Some entry) = refl
+nothing_on None = refl
 
 pub marks_none : Marks (replicate 64 0) []
 unfolding lookup is_nothing
@@ -113,7 +112,7 @@ marks_more s s' ws w block e u m = record {
       ∙ sym (ap (λ (x : Says). not (is_nothing (lookup_by k x (lookup k ws)))) e ∙ pick (eqb block k) (lookup k ws));
 }
   where
-    pick : (b : Bool) (found : Lookup) → not (is_nothing (cond b (Entry 0 Clean) (one_on found))) ≡ b || not (is_nothing found)
+    pick : (b : Bool) (found : Option Entry) → not (is_nothing (cond b (entry_at 0 Clean) (one_on found))) ≡ b || not (is_nothing found)
     pick true found = refl
     pick false found = ap not (nothing_on found)
 

@@ -1,6 +1,5 @@
 -- The record of a board that starts from a backup, and what going back to a backup leaves.
-use Rattle.std.specs.Prelude.{◌≡◌, cond, List, ℕ}
-use Rattle.std.proofs.Math.Option.{Option}
+use Rattle.std.specs.Prelude.{◌≡◌, cond, List, ℕ, Option}
 use Rattle.words.specs.Words.{words, numbers}
 use Rattle.rules.specs.declared.Geometry.{Geometry}
 use Rattle.rules.specs.declared.Backup.{Backup}

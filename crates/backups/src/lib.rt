@@ -2,44 +2,36 @@
 // (document 01, Checkpoints; document 02, No. 2).
 #![tactic(auto)]
 
-ghost use Rattle.std.specs.Prelude.{◌≡◌, cond, List, [], ℕ, ◌+◌, ◌*◌, ◌≤◌, length};
-ghost use Rattle.std.proofs.Math.Option.{none, some};
+ghost use Rattle.std.specs.Prelude.{◌≡◌, cond, List, [], ℕ, ◌+◌, ◌*◌, ◌≤◌, length, None, Some};
 ghost use Rattle.words.specs.Words.{numbers, words};
 ghost use Rattle.rules.specs.Geometry.{backup_words, memory_words};
 ghost use Rattle.rules.specs.Numbers.{well_formed};
 ghost use Rattle.rules.specs.Starts.{finished_by, has_registers, mark_in, only_clean, sound, registers_of};
 ghost use Rattle.backups.specs.Sets.{Marks, Took};
 ghost use Rattle.backups.specs.Records.{started_of, opened_of, refused_recovery, Opens};
-ghost use Rattle.backups.specs.Marked.{backup_of};
 
 use checks::answers::{refused, reply};
 use rules::{Backup, Controller, Geometry, Number, Phase, Recovery, Registers};
-use sets::{put_in, seen};
+pub use sets::BlockSet;
 use words::{copy_part, number_at};
 
 mod sets;
 
-// What a mark says.
-#[derive(Clone, Copy)]
-pub enum Marked {
-    Finished(Backup),
-    Nothing,
-}
-
-pub fn finished_by(mark: u64) -> Marked
-    ensures { backup_of result ≡ finished_by mark }
+// The backup that a mark names.
+pub fn finished_by(mark: u64) -> Option<Backup>
+    ensures { result ≡ finished_by mark }
 {
     match mark {
-        1 => Marked::Finished(Backup::A),
-        2 => Marked::Finished(Backup::B),
-        3 => Marked::Finished(Backup::A),
-        _ => Marked::Nothing,
+        1 => Some(Backup::A),
+        2 => Some(Backup::B),
+        3 => Some(Backup::A),
+        _ => None,
     }
 }
 
 // Whether the backup that a mark names has registers.
 pub fn registers_by(mark: u64) -> Registers
-    ensures { (bytes : List ℕ) → registers_of result bytes ≡ cond (has_registers mark) (some bytes) none }
+    ensures { (bytes : List ℕ) → registers_of result bytes ≡ cond (has_registers mark) (Some bytes) None }
 {
     match mark {
         3 => Registers::Absent,
@@ -56,6 +48,7 @@ pub fn mark_in(memory: &[u8], g: Geometry) -> u64
 }
 
 // Whether a saved word is 0, or clean with a block of the board.
+// By the number of its code: a State made of it would be a second test of a word in the walk.
 pub fn clean_word(word: u64, g: Geometry) -> bool
     ensures { result ≡ well_formed only_clean g word }
 {
@@ -65,10 +58,11 @@ pub fn clean_word(word: u64, g: Geometry) -> bool
     (word % 256 == 1) & (word / 256 < g.blocks as u64)
 }
 
+// That there are at most 4,096 blocks stands in each contract: a Geometry may have any number.
 // Whether a word may stand before the words whose blocks the set holds; if so, its block joins the set.
-pub fn take_word(word: u64, g: Geometry, set: &mut [u64]) -> bool
-    requires { (g.blocks ≤ 4096) × (length set.old ≡ 64) }
-    ensures { (after : List ℕ) → Marks set.old after → Took g word after set.new result }
+pub fn take_word(word: u64, g: Geometry, set: &mut BlockSet) -> bool
+    requires { g.blocks ≤ 4096 }
+    ensures { (after : List ℕ) → Marks set.old.words after → Took g word after set.new.words result }
 {
     if !clean_word(word, g) {
         return false;
@@ -76,48 +70,35 @@ pub fn take_word(word: u64, g: Geometry, set: &mut [u64]) -> bool
     if word == 0 {
         return true;
     }
-    let named = word / 256;
-    let block = named as usize;
-    if seen(set, block) {
+    let block = (word / 256) as usize;
+    if set.has(block) {
         return false;
     }
-    put_in(set, block);
+    set.put(block);
     true
 }
 
 // From the last slot to the first, since a word is compared with those after it.
-pub fn part_sound(part: &[u8], g: Geometry, set: &mut [u64]) -> bool
-    requires { (g.blocks ≤ 4096) × (length set.old ≡ 64) × (8 * backup_words g ≤ length part.now) × Marks set.old [] }
+pub fn backup_sound(part: &[u8], g: Geometry) -> bool
+    requires { (g.blocks ≤ 4096) × (8 * backup_words g ≤ length part.now) }
     ensures { result ≡ sound g (numbers part.now 8 g.slots) }
 {
-    let mut slot = g.slots as usize;
-    while slot > 0 {
-        slot -= 1;
-        let word = number_at(part, 8 + slot);
-        if !take_word(word, g, set) {
+    let mut set = BlockSet::empty();
+    for slot in (0..g.slots as usize).rev() {
+        if !take_word(number_at(part, 8 + slot), g, &mut set) {
             return false;
         }
     }
     true
 }
 
-pub fn backup_sound(part: &[u8], g: Geometry) -> bool
-    requires { (g.blocks ≤ 4096) × (8 * backup_words g ≤ length part.now) }
-    ensures { result ≡ sound g (numbers part.now 8 g.slots) }
-{
-    let mut set = [0u64; 64];
-    part_sound(part, g, &mut set)
-}
-
+// As the C door's `read_table`, which promises more: that the words give all of its bytes back.
 pub fn copy_table(part: &[u8], table: &mut [u64])
     requires { 8 * (8 + length table.old) ≤ length part.now }
     ensures { table.new ≡ numbers part.now 8 (length table.old) }
 {
-    let mut slot = 0;
-    while slot < table.len() {
-        let word = number_at(part, 8 + slot);
-        table[slot] = word;
-        slot += 1;
+    for slot in 0..table.len() {
+        table[slot] = number_at(part, 8 + slot);
     }
 }
 
@@ -127,7 +108,7 @@ pub fn started(g: Geometry, backup: Backup, registers: [u8; 64]) -> Controller
 {
     Controller {
         geometry: g,
-        registers: registers,
+        registers,
         finished: backup,
         phase: Phase::Running,
     }
@@ -153,9 +134,8 @@ pub fn opened(part: &[u8], g: Geometry, backup: Backup, registers: Registers) ->
 pub fn refused_recovery(number: Number, controller: Controller) -> Recovery
     ensures { result ≡ refused_recovery number controller }
 {
-    let answer = refused(number, controller);
     Recovery {
-        answer: answer,
+        answer: refused(number, controller),
         registers: Registers::Absent,
     }
 }
@@ -177,9 +157,8 @@ pub fn recover_from(
     }
     copy_table(part, table);
     let started = opened(part, g, backup, registers);
-    let answer = reply(Number::Done, 0, started);
     Recovery {
-        answer: answer,
-        registers: registers,
+        answer: reply(Number::Done, 0, started),
+        registers,
     }
 }

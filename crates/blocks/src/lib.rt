@@ -1,4 +1,5 @@
 // The visible block: as a part of the lent memory or CACHE, and copied from it (document 01, Where a block shows).
+// What is lent comes one by one, by & or &mut as the call needs it: one value of all of it would ask callers for more.
 #![tactic(auto)]
 
 ghost use Rattle.std.specs.Prelude.{◌≡◌, ◌+◌, ◌*◌, ◌≤◌, ◌<◌, length, take, drop};
@@ -7,19 +8,19 @@ ghost use Rattle.rules.specs.Geometry.{memory_words, home_block, checkpoint_bloc
 ghost use Rattle.rules.specs.Loads.{shows, spot_in, block_in};
 ghost use Rattle.blocks.specs.Shown.{PartOf, Shown};
 
-use rules::{Geometry, Place, State};
+use rules::{Entry, Geometry, Place, State};
 
 pub fn place_of(state: State) -> Place
     ensures { result ≡ shows state }
 {
     match state {
-        State::Clean => Place::Checkpoint,
-        State::Dirty => Place::Checkpoint,
         State::Hidden => Place::Home,
-        State::PreHidden => Place::Cache,
-        State::PreDirty => Place::Cache,
+        State::Clean | State::Dirty => Place::Checkpoint,
+        State::PreHidden | State::PreDirty => Place::Cache,
     }
 }
+
+// The memory's length stands in each contract: a type of the slice and the sizes would be one for & and one for &mut.
 
 // A block of a part, counted from the part's start.
 pub fn block_of(part: &[u8], index: usize) -> &[u8]
@@ -27,24 +28,21 @@ pub fn block_of(part: &[u8], index: usize) -> &[u8]
     ensures { PartOf result part.entry (64 * index) 64 }
 {
     let start = 64 * index;
-    let end = start + 64;
-    &part[start..end]
+    &part[start..start + 64]
 }
 
 pub fn part_home(memory: &[u8], g: Geometry, block: usize) -> &[u8]
     requires { (block < g.blocks) × (length memory.now ≡ 8 * memory_words g) }
     ensures { PartOf result memory.entry (64 * home_block g block) 64 }
 {
-    let start = 8 * g.home_start();
-    block_of(&memory[start..], block)
+    block_of(&memory[8 * g.home_start()..], block)
 }
 
 pub fn part_checkpoint(memory: &[u8], g: Geometry, slot: usize) -> &[u8]
     requires { (slot < g.slots) × (length memory.now ≡ 8 * memory_words g) }
     ensures { PartOf result memory.entry (64 * checkpoint_block g slot) 64 }
 {
-    let start = 8 * g.checkpoint_start();
-    block_of(&memory[start..], slot)
+    block_of(&memory[8 * g.checkpoint_start()..], slot)
 }
 
 // The visible block of an entry.
@@ -53,17 +51,15 @@ pub fn part_entry<'a>(
     cache: &'a [u8],
     g: Geometry,
     block: usize,
-    slot: usize,
-    state: State,
+    entry: Entry,
 ) -> &'a [u8]
-    requires { (block < g.blocks) × (slot < g.slots) × (length memory.now ≡ 8 * memory_words g) × (length cache.now ≡ 64 * g.slots) }
-    ensures { Shown result memory.entry cache.entry (spot_in g block slot (shows state)) }
+    requires { (block < g.blocks) × (entry.slot < g.slots) × (length memory.now ≡ 8 * memory_words g) × (length cache.now ≡ 64 * g.slots) }
+    ensures { Shown result memory.entry cache.entry (spot_in g block entry.slot (shows entry.state)) }
 {
-    let place = place_of(state);
-    match place {
+    match place_of(entry.state) {
         Place::Home => part_home(memory, g, block),
-        Place::Checkpoint => part_checkpoint(memory, g, slot),
-        Place::Cache => block_of(cache, slot),
+        Place::Checkpoint => part_checkpoint(memory, g, entry.slot),
+        Place::Cache => block_of(cache, entry.slot),
     }
 }
 
@@ -80,18 +76,16 @@ pub fn copy_entry(
     cache: &[u8],
     g: Geometry,
     block: usize,
-    slot: usize,
-    state: State,
+    entry: Entry,
     offset: usize,
     into: &mut [u8],
 )
-    requires { (block < g.blocks) × (slot < g.slots) × (length memory.now ≡ 8 * memory_words g) × (length cache.now ≡ 64 * g.slots) × (offset + length into.old ≤ 64) }
-    ensures { into.new ≡ take (length into.old) (drop offset (block_in memory.now cache.now (spot_in g block slot (shows state)))) }
+    requires { (block < g.blocks) × (entry.slot < g.slots) × (length memory.now ≡ 8 * memory_words g) × (length cache.now ≡ 64 * g.slots) × (offset + length into.old ≤ 64) }
+    ensures { into.new ≡ take (length into.old) (drop offset (block_in memory.now cache.now (spot_in g block entry.slot (shows entry.state)))) }
 {
-    let place = place_of(state);
-    match place {
+    match place_of(entry.state) {
         Place::Home => copy_home(memory, g, block, offset, into),
-        Place::Checkpoint => words::copy_part(part_checkpoint(memory, g, slot), offset, into),
-        Place::Cache => words::copy_part(block_of(cache, slot), offset, into),
+        Place::Checkpoint => words::copy_part(part_checkpoint(memory, g, entry.slot), offset, into),
+        Place::Cache => words::copy_part(block_of(cache, entry.slot), offset, into),
     }
 }

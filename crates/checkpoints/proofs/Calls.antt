@@ -49,15 +49,16 @@ module _ (memory cache table : List ℕ) (controller : Controller) (registers : 
   unfolding R.begin_number
   begin_number_lem = refl
 
-  module _ (n : Number) (ok : Bool) (e : n ≡ first_of (common_checks Board₁ unfitting)) (o : ok ≡ eqb (number_of n) 0) where
-    pub begin_stops : not ok ≡ true → n ≡ R.begin_number Board₁ registers
-    begin_stops t = by_common Board₁ unfitting (is_writing controller.phase) No.Busy n ok e o t ∙ begin_number_lem
+  pub begin_stops : {n : Number} → (n ≡ first_of (common_checks Board₁ unfitting)) × (number_of n ≢ 0) → n ≡ R.begin_number Board₁ registers
+  begin_stops h = by_common Board₁ unfitting (is_writing controller.phase) No.Busy h ∙ begin_number_lem
 
-    pub begin_busy : {held : Bool} → not ok ≡ false → held ≡ is_writing controller.phase → held ≡ true → No.Busy ≡ R.begin_number Board₁ registers
-    begin_busy t h q = by_last Board₁ unfitting (is_writing controller.phase) No.Busy n ok e o t (sym h ∙ q) ∙ begin_number_lem
+  -- once the checks 1 to 5 pass
+  module _ (z : number_of (first_of (common_checks Board₁ unfitting)) ≡ 0) where
+    pub begin_busy : {held : Bool} → held ≡ is_writing controller.phase → held ≡ true → No.Busy ≡ R.begin_number Board₁ registers
+    begin_busy h q = by_last Board₁ unfitting (is_writing controller.phase) No.Busy z (sym h ∙ q) ∙ begin_number_lem
 
-    pub begin_accepted : {held : Bool} → not ok ≡ false → held ≡ is_writing controller.phase → held ≡ false → No.Done ≡ R.begin_number Board₁ registers
-    begin_accepted t h q = by_none Board₁ unfitting (is_writing controller.phase) No.Busy n ok e o t (sym h ∙ q) ∙ begin_number_lem
+    pub begin_accepted : {held : Bool} → held ≡ is_writing controller.phase → held ≡ false → No.Done ≡ R.begin_number Board₁ registers
+    begin_accepted h q = by_none Board₁ unfitting (is_writing controller.phase) No.Busy z (sym h ∙ q) ∙ begin_number_lem
 
   -- what an accepted begin knows
   pub record Begins : Type 0 where
@@ -82,9 +83,8 @@ module _ (memory cache table : List ℕ) (controller : Controller) (registers : 
       }
 
   -- what a begin knows behind its last check
-  pub begin_known : (n : Number) (ok : Bool) → n ≡ first_of (common_checks Board₁ unfitting) → ok ≡ eqb (number_of n) 0 → {held : Bool} → not ok ≡ false
-      → held ≡ is_writing controller.phase → held ≡ false → Begins
-  begin_known n ok e o t h q = begins (begin_accepted n ok e o t h q) (sym h ∙ q)
+  pub begin_known : number_of (first_of (common_checks Board₁ unfitting)) ≡ 0 → {held : Bool} → held ≡ is_writing controller.phase → held ≡ false → Begins
+  begin_known z h q = begins (begin_accepted z h q) (sym h ∙ q)
 
   module _ (p : ℕ) where
     pub begin_refused : (n : Number) (answer : Answer) → n ≡ R.begin_number Board₁ registers → number_of n ≢ 0 → answer ≡ refused_of n controller
@@ -126,15 +126,15 @@ module _ (memory cache table : List ℕ) (controller : Controller) where
   unfolding R.step_number
   step_number_lem = refl
 
-  module _ (n : Number) (ok : Bool) (e : n ≡ first_of (common_checks Board₂ false)) (o : ok ≡ eqb (number_of n) 0) where
-    pub step_stops : not ok ≡ true → n ≡ R.step_number Board₂
-    step_stops t = by_common Board₂ false (is_running controller.phase) No.Idle n ok e o t ∙ step_number_lem
+  pub step_stops : {n : Number} → (n ≡ first_of (common_checks Board₂ false)) × (number_of n ≢ 0) → n ≡ R.step_number Board₂
+  step_stops h = by_common Board₂ false (is_running controller.phase) No.Idle h ∙ step_number_lem
 
-    pub step_idle : {held : Bool} → not ok ≡ false → held ≡ is_running controller.phase → held ≡ true → No.Idle ≡ R.step_number Board₂
-    step_idle t h q = by_last Board₂ false (is_running controller.phase) No.Idle n ok e o t (sym h ∙ q) ∙ step_number_lem
+  module _ (z : number_of (first_of (common_checks Board₂ false)) ≡ 0) where
+    pub step_idle : {held : Bool} → held ≡ is_running controller.phase → held ≡ true → No.Idle ≡ R.step_number Board₂
+    step_idle h q = by_last Board₂ false (is_running controller.phase) No.Idle z (sym h ∙ q) ∙ step_number_lem
 
-    pub step_accepted : {held : Bool} → not ok ≡ false → held ≡ is_running controller.phase → held ≡ false → No.Done ≡ R.step_number Board₂
-    step_accepted t h q = by_none Board₂ false (is_running controller.phase) No.Idle n ok e o t (sym h ∙ q) ∙ step_number_lem
+    pub step_accepted : {held : Bool} → held ≡ is_running controller.phase → held ≡ false → No.Done ≡ R.step_number Board₂
+    step_accepted h q = by_none Board₂ false (is_running controller.phase) No.Idle z (sym h ∙ q) ∙ step_number_lem
 
   -- what an accepted step knows
   pub steps : No.Done ≡ R.step_number Board₂ → Passed memory cache table controller false
@@ -142,9 +142,9 @@ module _ (memory cache table : List ℕ) (controller : Controller) where
   steps e = (common_passed memory cache table controller false ((is_running controller.phase ⇒ No.Idle) ∷ []) (ap number_of (step_number_lem ∙ sym e))).0
 
   -- what a step knows behind its last check: its number, and the board
-  pub step_known : (n : Number) (ok : Bool) → n ≡ first_of (common_checks Board₂ false) → ok ≡ eqb (number_of n) 0 → {held : Bool} → not ok ≡ false
-      → held ≡ is_running controller.phase → held ≡ false → (No.Done ≡ R.step_number Board₂) × Passed memory cache table controller false
-  step_known n ok e o t h q = let d = step_accepted n ok e o t h q in (d, steps d)
+  pub step_known : number_of (first_of (common_checks Board₂ false)) ≡ 0 → {held : Bool} → held ≡ is_running controller.phase → held ≡ false
+      → (No.Done ≡ R.step_number Board₂) × Passed memory cache table controller false
+  step_known z h q = let d = step_accepted z h q in (d, steps d)
 
   module _ (p most : ℕ) where
     pub step_refused : (n : Number) (answer : Answer) → n ≡ R.step_number Board₂ → number_of n ≢ 0 → answer ≡ refused_of n controller

@@ -107,13 +107,13 @@ module _ (place mark : ℕ) (registers table : List ℕ) where
       one_of_back (bytes_to 0 8 registers ++ numbers_to 8 table) (numbers_to place (mark ∷ [])) i 0 (omega (arith, length_front))
       ∙ one_number place mark
 
-  pub lays_register : (i : ℕ) {part part' : List ℕ} {r : ℕ} → i < 8
-      → Lays 1 (bytes_to i 1 (take (length registers - 8 * i) (drop (8 * i) registers))) part part' r
+  pub lays_register : (i n : ℕ) {part part' : List ℕ} {r : ℕ} → i < 8 → n ≡ length registers
+      → Lays 1 (bytes_to i 1 (take (n - 8 * i) (drop (8 * i) registers))) part part' r
       → part' ≡ lay (take 1 (drop i (backup_list place mark registers table))) part
-  lays_register i {part} h l =
+  lays_register i n {part} h e l =
       l.bytes
       ∙ ap (λ (z : List Store). lay z part)
-      (one_bytes i _ ∙ ap (bytes_to i 1) (tail_part (8 * i) registers) ∙ sym (register_word i h))
+      (one_bytes i _ ∙ ap (bytes_to i 1) (ap (λ (k : ℕ). take (k - 8 * i) (drop (8 * i) registers)) e ∙ tail_part (8 * i) registers) ∙ sym (register_word i h))
 
   pub lays_mark : (i : ℕ) {part part' : List ℕ} {r : ℕ} → i ≡ 8 + length table → Lays 1 (numbers_to place (mark ∷ [])) part part' r
       → part' ≡ lay (take 1 (drop i (backup_list place mark registers table))) part

@@ -8,9 +8,9 @@ ghost use Rattle.checkpoints.specs.Records.{stepped_record};
 ghost use Rattle.checkpoints.specs.Backups.{backup_list, Room};
 
 use rules::{Backup, Controller, Geometry, Phase};
-use words::{lay_bytes, lay_number, least};
+use words::{lay_bytes, lay_number};
 
-// The backup that isn't finished.
+// The backup that isn't finished. A `!` of a Backup would be no plainer.
 pub fn other(finished: Backup) -> Backup
     ensures { result ≡ R.other finished }
 {
@@ -20,22 +20,12 @@ pub fn other(finished: Backup) -> Backup
     }
 }
 
-// The mark: 1 = A is finished, 2 = B is finished.
-pub fn mark_of(backup: Backup) -> u64
-    ensures { result ≡ R.mark_of backup }
-{
-    match backup {
-        Backup::A => 1,
-        Backup::B => 2,
-    }
-}
-
 // Clean and pre-hidden are saved as clean, all else as free.
+// By the number of its code: a State made of it would be a second test of a word in the walk.
 pub fn saved_word(word: u64) -> u64
     ensures { result ≡ changed R.saved word }
 {
-    let code = word % 256;
-    match code {
+    match word % 256 {
         1 => word,
         4 => word - 3,
         _ => 0,
@@ -47,11 +37,11 @@ pub fn lay_word(
     part: &mut [u8],
     place: usize,
     mark: u64,
-    registers: &[u8],
+    registers: &[u8; 64],
     table: &[u64],
     index: usize,
 )
-    requires { Room place (length table.now) (length part.old) × (index < length table.now + 9) × (length registers.now ≡ 64) }
+    requires { Room place (length table.now) (length part.old) × (index < length table.now + 9) }
     ensures { part.new ≡ lay (take 1 (drop index (backup_list place mark registers.now (map (changed R.saved) table.now)))) part.old }
 {
     if index < Geometry::REGISTER_WORDS {
@@ -61,32 +51,29 @@ pub fn lay_word(
     }
     let slot = index - Geometry::REGISTER_WORDS;
     if slot < table.len() {
-        let word = saved_word(table[slot]);
-        lay_number(part, index, word, 1);
+        lay_number(part, index, saved_word(table[slot]), 1);
         return;
     }
     lay_number(part, place, mark, 1);
 }
 
 // So many words of a checkpoint's list from the count on, under an allowance.
+// The count and the words are of the list, and no length of a slice.
 pub fn lay_words(
     part: &mut [u8],
     place: usize,
     mark: u64,
-    registers: &[u8],
+    registers: &[u8; 64],
     table: &[u64],
     count: usize,
     words: usize,
     p: usize,
 ) -> usize
-    requires { Room place (length table.now) (length part.old) × (count + words ≤ length table.now + 9) × (length registers.now ≡ 64) }
+    requires { Room place (length table.now) (length part.old) × (count + words ≤ length table.now + 9) }
     ensures { Lays p (take words (drop count (backup_list place mark registers.now (map (changed R.saved) table.now)))) part.old part.new result }
 {
-    let stored = least(p, words);
-    let mut done = 0;
-    while done < stored {
+    for done in 0..p.min(words) {
         lay_word(part, place, mark, registers, table, count + done);
-        done += 1;
     }
     words
 }
@@ -104,18 +91,14 @@ pub fn lay_next(
     ensures { Lays p (take words (drop count (R.checkpoint_list controller.geometry (R.other controller.finished) controller.registers (map (changed R.saved) table.now)))) memory.old memory.new result }
 {
     let g = controller.geometry;
-    let finished = controller.finished;
-    let registers = controller.registers;
-    let backup = other(finished);
+    let backup = other(controller.finished);
     let start = g.backup_start(backup);
     let place = g.mark_start() - start;
-    let mark = mark_of(backup);
-    let first = 8 * start;
     lay_words(
-        &mut memory[first..],
+        &mut memory[8 * start..],
         place,
-        mark,
-        &registers,
+        u64::from(backup),
+        &controller.registers,
         table,
         count,
         words,
@@ -128,22 +111,15 @@ pub fn stepped(controller: Controller, count: usize) -> Controller
     requires { count ≤ 521 }
     ensures { result ≡ stepped_record controller count }
 {
-    let geometry = controller.geometry;
-    let registers = controller.registers;
-    let finished = controller.finished;
-    if count == (geometry.slots as usize) + 9 {
-        let next = other(finished);
+    if count == (controller.geometry.slots as usize) + 9 {
         return Controller {
-            geometry: geometry,
-            registers: registers,
-            finished: next,
+            finished: other(controller.finished),
             phase: Phase::Running,
+            ..controller
         };
     }
     Controller {
-        geometry: geometry,
-        registers: registers,
-        finished: finished,
         phase: Phase::Writing(count as u16),
+        ..controller
     }
 }

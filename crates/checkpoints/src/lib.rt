@@ -1,4 +1,5 @@
 // The calls that make a checkpoint: begin and step (document 01, Checkpoints).
+// What is lent comes one by one, by & or &mut as the call needs it: one value of all of it would ask callers for more.
 #![tactic(auto)]
 
 ghost use Rattle.std.specs.Prelude.{◌≡◌};
@@ -8,11 +9,10 @@ ghost use Rattle.rules.specs.Calls as K;
 
 use crate::backups::{lay_next, stepped};
 use checks::answers::{refused, reply, switched_off};
-use checks::numbers::{accepted, common_number, count_of, is_running, is_writing};
+use checks::numbers::{check_common, count_of, is_running, is_writing};
 use copies::counts::count_begin;
 use copies::{begin_slots, begun, lay_copies};
 use rules::{Answer, Controller, Number};
-use words::least;
 
 pub mod backups;
 
@@ -28,25 +28,19 @@ pub fn begin(
     ensures { K.call p (board_of memory.old cache.now table.old controller) (K.begin registers.now) ≡ outcome_of result memory.new cache.now table.new }
 {
     let unfit = registers.len() != 64;
-    let counted = count_begin(memory, cache, table, controller, unfit);
-    let number = counted.number;
-    if !accepted(number) {
-        return refused(number, controller);
-    }
-    let phase = controller.phase;
-    if is_writing(phase) {
+    let words = match count_begin(memory, cache, table, controller, unfit) {
+        Ok(words) => words,
+        Err(number) => return refused(number, controller),
+    };
+    if is_writing(controller.phase) {
         return refused(Number::Busy, controller);
     }
-    let g = controller.geometry;
-    let words = counted.words;
     if p < words {
-        lay_copies(memory, cache, table, g, p);
-        let off = switched_off(controller);
-        return reply(Number::Cut, p, off);
+        lay_copies(memory, cache, table, controller.geometry, p);
+        return reply(Number::Cut, p, switched_off(controller));
     }
-    begin_slots(memory, cache, table, g);
-    let after = begun(controller, registers);
-    reply(Number::Done, words, after)
+    begin_slots(memory, cache, table, controller.geometry);
+    reply(Number::Done, words, begun(controller, registers))
 }
 
 // Stores the next words of the checkpoint, at most `most`.
@@ -60,23 +54,23 @@ pub fn step(
 ) -> Answer
     ensures { K.call p (board_of memory.old cache.now table.now controller) (K.step most) ≡ outcome_of result memory.new cache.now table.now }
 {
-    let g = controller.geometry;
-    let phase = controller.phase;
-    let number = common_number(memory.len(), cache.len(), table, g, phase, false);
-    if !accepted(number) {
+    let Controller {
+        geometry,
+        phase,
+        ..
+    } = controller;
+    if let Err(number) = check_common(memory.len(), cache.len(), table, geometry, phase, false) {
         return refused(number, controller);
     }
     if is_running(phase) {
         return refused(Number::Idle, controller);
     }
     let count = count_of(phase);
-    let left = (g.slots as usize) + 9 - count;
-    let words = least(most, left);
+    let left = (geometry.slots as usize) + 9 - count;
+    let words = most.min(left);
     lay_next(memory, table, controller, count, words, p);
     if p < words {
-        let off = switched_off(controller);
-        return reply(Number::Cut, p, off);
+        return reply(Number::Cut, p, switched_off(controller));
     }
-    let after = stepped(controller, count + words);
-    reply(Number::Done, words, after)
+    reply(Number::Done, words, stepped(controller, count + words))
 }

@@ -1,5 +1,6 @@
 -- A chain of checks: where it stops, where it goes on, and what a call knows once it is passed.
-use Rattle.std.proofs.Common.{◌≡◌, ℕ, ◌+◌, ◌*◌, ◌≤◌, Bool, true, false, cond, not, ◌&&◌, eqb, leb, ◌≢◌, List, [], ◌∷◌, ◌++◌, length, replicate, sym, refl, ap, ◌∙◌, suc-ne-zero, arith, ltb-false, eqb-true, leb-true}
+use Rattle.std.proofs.Common.{Result, IsErrAnd, ◌≡◌, ℕ, ◌+◌, ◌*◌, ◌≤◌, Bool, true, false, cond, not, ◌&&◌, eqb, leb, ◌≢◌, List, [], ◌∷◌, ◌++◌, length, replicate, sym, refl, ap, ◌∙◌, suc-ne-zero, arith, ltb-false, eqb-true, leb-true}
+use Rattle.std.proofs.lemmas.Result.{err_from_is_err_and}
 use lib.ListN.{length-replicate}
 use borrow.Author.Tests.{eqb-false, not-false, not-true}
 use Rattle.words.proofs.All.{All, done, also, all_take}
@@ -20,6 +21,7 @@ use Rattle.rules.proofs.Clashes.{and_left, and_right, or_false}
 use Rattle.checks.specs.Early.{early_checks}
 use Rattle.checks.specs.Lent.{Lengths, Lent}
 use Rattle.checks.specs.Ready.{Ready}
+use Rattle.checks.specs.Results.{Judged}
 
 -- ---- link by link
 
@@ -34,6 +36,17 @@ miss n checks e q = rw e q
 pub none_applies : No.Done ≡ first_of []
 unfolding first_of
 none_applies = refl
+
+-- ---- what a chain answers as a Result
+
+pub skip : {applies : Bool} (n : Number) (checks : List Check) (r : Result (Unit {0}) Number) → applies ≡ false → Judged (first_of checks) r
+    → Judged (first_of ((applies ⇒ n) ∷ checks)) r
+unfolding first_of
+skip n checks r e q = rw e q
+
+-- what `?` hands on is the refusal that it met
+pub handed_on : {T : Type 0} {first : Number} (r : Result T Number) (n : Number) → IsErrAnd r (λ y. y ≡ n) → (n ≡ first) × (number_of n ≢ 0) → Judged first r
+handed_on r n e h = let p = err_from_is_err_and r e in rw (p.1, p.2) h
 
 -- ---- the test that a call makes of its number
 
@@ -71,6 +84,14 @@ go_on ys (also (refuses {applies = applies} {n = n} ne) rest) e =
     let p = passed applies n _ ne e in
     rw p.0 (go_on ys rest p.1)
 
+-- the same of what a call's parts answer: the front refuses, or it passes and the rest decides
+pub front_refuses : {n : Number} (xs ys : List Check) → (n ≡ first_of xs) × (number_of n ≢ 0) → (n ≡ first_of (xs ++ ys)) × (number_of n ≢ 0)
+front_refuses xs ys h = (stopped xs ys h.0 h.1, h.1)
+
+pub rest_decides : {xs : List Check} (ys : List Check) (r : Result (Unit {0}) Number) → All Refuses xs → number_of (first_of xs) ≡ 0 → Judged (first_of ys) r
+    → Judged (first_of (xs ++ ys)) r
+rest_decides ys r all z j = rw (go_on ys all z) j
+
 pub front_passed : {xs : List Check} (ys : List Check) → All Refuses xs → number_of (first_of (xs ++ ys)) ≡ 0 → (number_of (first_of xs) ≡ 0) × (number_of (first_of ys) ≡ 0)
 unfolding first_of number_of
 front_passed ys done e = (refl, e)
@@ -84,6 +105,19 @@ front_passed ys (also (refuses {applies = applies} {n = n} ne) rest) e =
 pub sizes_checks_lem : (board : Board) (g : Geometry) → first_of ((outside g ⇒ No.Geometry) ∷ (inexact g board ⇒ No.Buffer) ∷ []) ≡ format_number board g
 unfolding format_number
 sizes_checks_lem board g = refl
+
+module _ (board : Board) (g : Geometry) where
+  pub outside_stops : outside g ≡ true → No.Geometry ≡ format_number board g
+  unfolding format_number
+  outside_stops o = hit ((inexact g board ⇒ No.Buffer) ∷ []) o
+
+  pub inexact_stops : outside g ≡ false → inexact g board ≡ true → No.Buffer ≡ format_number board g
+  unfolding format_number
+  inexact_stops o i = miss No.Geometry ((inexact g board ⇒ No.Buffer) ∷ []) o (hit [] i)
+
+  pub both_pass : outside g ≡ false → inexact g board ≡ false → number_of (format_number board g) ≡ 0
+  unfolding format_number first_of number_of
+  both_pass o i = rw (o, i)
 
 within_bounds : (a b c d : ℕ) → not (leb 1 a && leb a c && leb 1 b && leb b d) ≡ false → (1 ≤ a) × (a ≤ c) × (1 ≤ b) × (b ≤ d)
 within_bounds a b c d e =
@@ -134,60 +168,65 @@ common_goes_on board unfit checks e = go_on checks (common_refuses board unfit) 
 
 -- ---- the checks 1 to 4, and then the table's words
 
--- n is the number of the early checks
-module _ (board : Board) (unfit : Bool) (n : Number) (ok : Bool) (e : n ≡ first_of (early_checks board unfit)) (o : ok ≡ eqb (number_of n) 0) where
-  table_last : first_of (early_checks board unfit ++ (malformed board ⇒ No.Table) ∷ []) ≡ first_of (common_checks board unfit)
+module _ (board : Board) (unfit : Bool) where
+  abbrev pub last_check : List Check
+  last_check = (malformed board ⇒ No.Table) ∷ []
+
+  table_last : first_of (early_checks board unfit ++ last_check) ≡ first_of (common_checks board unfit)
   unfolding early_checks common_checks
   table_last = refl
 
-  pub early_stops : not ok ≡ true → n ≡ first_of (common_checks board unfit)
-  early_stops t = stopped (early_checks board unfit) ((malformed board ⇒ No.Table) ∷ []) e (refusing n o (not-true ok t)) ∙ table_last
+  pub early_refuses : {n : Number} → (n ≡ first_of (early_checks board unfit)) × (number_of n ≢ 0) → (n ≡ first_of (common_checks board unfit)) × (number_of n ≢ 0)
+  early_refuses h = (stopped (early_checks board unfit) last_check h.0 h.1 ∙ table_last, h.1)
 
-  -- the checks 1 to 4 are passed
-  pub early_passed : not ok ≡ false → Ready (sizes board) board.memory (cache_of board) (table_of board)
-  unfolding early_checks common_checks malformed first_of number_of
-  early_passed t =
-      let z : number_of (first_of (early_checks board unfit)) ≡ 0 = ap number_of (sym e) ∙ accepting n o (not-false ok t) in
-      let p1 = passed _ No.Geometry _ (suc-ne-zero 0) z in
-      let p2 = passed _ No.Buffer _ (suc-ne-zero 1) p1.1 in
-      ready board.memory (cache_of board) (table_of board) (sizes board) board.volatile.controller p1.0
-      (or_false (inexact (sizes board) board) unfit p2.0).0
+  module _ (z : number_of (first_of (early_checks board unfit)) ≡ 0) where
+    pub early_passed : Ready (sizes board) board.memory (cache_of board) (table_of board)
+    unfolding early_checks common_checks malformed first_of number_of
+    early_passed =
+        let p1 = passed _ No.Geometry _ (suc-ne-zero 0) z in
+        let p2 = passed _ No.Buffer _ (suc-ne-zero 1) p1.1 in
+        ready board.memory (cache_of board) (table_of board) (sizes board) board.volatile.controller p1.0
+        (or_false (inexact (sizes board) board) unfit p2.0).0
 
-  table_decides : not ok ≡ false → first_of ((malformed board ⇒ No.Table) ∷ []) ≡ first_of (common_checks board unfit)
-  unfolding early_checks
-  table_decides t =
-      sym (go_on ((malformed board ⇒ No.Table) ∷ []) (all_take 4 (common_refuses board unfit)) (ap number_of (sym e) ∙ accepting n o (not-false ok t)))
-      ∙ table_last
+    table_decides : first_of last_check ≡ first_of (common_checks board unfit)
+    unfolding early_checks
+    table_decides = sym (go_on last_check (all_take 4 (common_refuses board unfit)) z) ∙ table_last
 
-  module _ (formed : Bool) (f : formed ≡ every (well_formed (allows (phase_of board)) (sizes board)) (table_of board)) where
-    pub table_stops : not ok ≡ false → not formed ≡ true → No.Table ≡ first_of (common_checks board unfit)
-    unfolding malformed
-    table_stops t q = hit [] (ap not (sym f) ∙ q) ∙ table_decides t
+    module _ (formed : Bool) (f : formed ≡ every (well_formed (allows (phase_of board)) (sizes board)) (table_of board)) where
+      pub table_stops : not formed ≡ true → No.Table ≡ first_of (common_checks board unfit)
+      unfolding malformed
+      table_stops q = hit [] (ap not (sym f) ∙ q) ∙ table_decides
 
-    pub all_passed : not ok ≡ false → not formed ≡ false → No.Done ≡ first_of (common_checks board unfit)
-    unfolding malformed
-    all_passed t q = miss No.Table [] (ap not (sym f) ∙ q) none_applies ∙ table_decides t
+      pub all_passed : not formed ≡ false → number_of (first_of (common_checks board unfit)) ≡ 0
+      unfolding malformed number_of
+      all_passed q = ap number_of (sym (miss No.Table [] (ap not (sym f) ∙ q) none_applies ∙ table_decides))
 
--- ---- what is lent
+-- ---- the common checks and one more
 
--- ---- the number of the common checks and one more
-
--- n is the number of the common checks, `ok` tells whether it accepts
-module _ (board : Board) (unfit applies : Bool) (last n : Number) (ok : Bool) (e : n ≡ first_of (common_checks board unfit)) (o : ok ≡ eqb (number_of n) 0) where
+module _ (board : Board) (unfit applies : Bool) (last : Number) where
   abbrev numberBy : Number
   numberBy = first_of (common_checks board unfit ++ (applies ⇒ last) ∷ [])
 
-  pub by_common : not ok ≡ true → n ≡ numberBy
-  by_common t = stopped (common_checks board unfit) ((applies ⇒ last) ∷ []) e (refusing n o (not-true ok t))
+  pub by_common : {n : Number} → (n ≡ first_of (common_checks board unfit)) × (number_of n ≢ 0) → n ≡ numberBy
+  by_common h = stopped (common_checks board unfit) ((applies ⇒ last) ∷ []) h.0 h.1
 
-  goes_on : not ok ≡ false → numberBy ≡ first_of ((applies ⇒ last) ∷ [])
-  goes_on t = common_goes_on board unfit ((applies ⇒ last) ∷ []) (ap number_of (sym e) ∙ accepting n o (not-false ok t))
+  module _ (z : number_of (first_of (common_checks board unfit)) ≡ 0) where
+    goes_on : numberBy ≡ first_of ((applies ⇒ last) ∷ [])
+    goes_on = common_goes_on board unfit ((applies ⇒ last) ∷ []) z
 
-  pub by_last : not ok ≡ false → applies ≡ true → last ≡ numberBy
-  by_last t q = hit [] q ∙ sym (goes_on t)
+    pub by_last : applies ≡ true → last ≡ numberBy
+    by_last q = hit [] q ∙ sym goes_on
 
-  pub by_none : not ok ≡ false → applies ≡ false → No.Done ≡ numberBy
-  by_none t q = miss last [] q none_applies ∙ sym (goes_on t)
+    pub by_none : applies ≡ false → No.Done ≡ numberBy
+    by_none q = miss last [] q none_applies ∙ sym goes_on
+
+pub done_number : {n : Number} → No.Done ≡ n → number_of n ≡ 0
+unfolding number_of
+done_number e = ap number_of (sym e)
+
+pub range_refuses : number_of No.Range ≢ 0
+unfolding number_of
+range_refuses = suc-ne-zero 5
 
 pub table_refuses : number_of No.Table ≢ 0
 unfolding number_of
@@ -203,6 +242,10 @@ lengths l = record { memory = l.memory; cache = l.cache; table = ap length l.tab
 pub formed_in : {board : Board} {m c : ℕ} {t : List ℕ} {g : Geometry} {phase : Phase} {formed : Bool} → Lent board m c t g phase
     → formed ≡ every (well_formed (allows phase) g) t → formed ≡ every (well_formed (allows (phase_of board)) (sizes board)) (table_of board)
 formed_in l e = rw (l.table, l.geometry, l.phase) e
+
+pub board_lengths : (memory cache table : List ℕ) (controller : Controller)
+    → Lengths (board_of memory cache table controller) (length memory) (length cache) (length table)
+board_lengths memory cache table controller = record { memory = refl; cache = refl; table = refl }
 
 pub lent_now : (memory cache table : List ℕ) (controller : Controller)
     → Lent (board_of memory cache table controller) (length memory) (length cache) table controller.geometry controller.phase

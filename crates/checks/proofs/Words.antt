@@ -1,6 +1,5 @@
 -- One table word: when it is well formed, and whether it names a block.
-use Rattle.std.proofs.Common.{◌≡◌, ℕ, zero, suc, ◌-◌, ◌*◌, ◌/◌, ◌%◌, ◌<◌, ◌≤◌, Bool, true, false, cond, not, ◌&&◌, ◌||◌, eqb, ltb, leb, ◌≢◌, ◌⊎◌, sym, refl, ap, ◌∙◌, inl, inr, ⊎_elim, arith, ltb-true, le-ltb, lt-ltb, eq-eqb, ne_eqb, eqb-true, le-leb, leb-true}
-use mathlib.Core.Option.{Option, none, some}
+use Rattle.std.proofs.Common.{◌≡◌, ℕ, zero, suc, ◌-◌, ◌*◌, ◌/◌, ◌%◌, ◌<◌, ◌≤◌, Bool, true, false, cond, not, ◌&&◌, ◌||◌, eqb, ltb, leb, ◌≢◌, ◌⊎◌, sym, refl, ap, ◌∙◌, inl, inr, ⊎_elim, arith, ltb-true, le-ltb, lt-ltb, eq-eqb, ne_eqb, eqb-true, le-leb, leb-true, Option, None, Some}
 use borrow.Author.Tests.{eqb-false, not-true}
 use Rattle.rules.specs.declared.Geometry.{Geometry}
 use Rattle.rules.specs.declared.Phase.{Phase}
@@ -43,7 +42,7 @@ allowed_is true PreHidden = refl
 allowed_is true PreDirty = refl
 
 -- a code that stands for no state is 0, or above 5
-no_state : (code : ℕ) → state_for code ≡ none → (code ≡ 0) ⊎ (6 ≤ code)
+no_state : (code : ℕ) → state_for code ≡ None → (code ≡ 0) ⊎ (6 ≤ code)
 unfolding state_for
 no_state zero e = inl refl
 no_state (suc zero) e = absurd (none_some _ (sym e))
@@ -77,10 +76,10 @@ formed_is writing g word less l = go (eqb word 0) refl
     tests = leb word (256 * g.blocks) && ltb (less % 256) 5 && (not writing || eqb (word / 2 % 2) 0)
 
     named : (o : Option State) → state_for (word % 256) ≡ o → word ≢ 0 → tests ≡ well_said (allowed_while writing) g (says_of (word / 256) o)
-    named none q ne =
+    named None q ne =
         middle (leb word (256 * g.blocks)) (ltb (less % 256) 5) _
         (⊎_elim (λ h. le-ltb (less % 256) 5 (omega arith)) (λ h. le-ltb (less % 256) 5 (omega arith)) (no_state (word % 256) q))
-    named (some state) q ne =
+    named (Some state) q ne =
         let c : word % 256 ≡ code_of state = code_state (word % 256) state q in
         let low = code_low state in
         let high = code_high state in

@@ -4,3 +4,4 @@ pub mod Forms
 pub mod Lent
 pub mod Ready
 pub mod Early
+pub mod Results

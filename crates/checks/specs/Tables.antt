@@ -1,10 +1,7 @@
 -- The tests of table words that the loops over a table make.
-use Rattle.std.specs.Prelude.{◌≡◌, ℕ, ◌/◌, ◌%◌, ◌<◌, ◌≤◌, Bool, true, false, cond, not, ◌&&◌, ◌≢◌, List, length, ◌==◌, slice_index}
-use Rattle.std.proofs.Math.Option.{Option, none, some}
+use Rattle.std.specs.Prelude.{◌≡◌, ℕ, ◌+◌, ◌/◌, ◌%◌, ◌<◌, ◌≤◌, Bool, true, false, cond, not, ◌&&◌, ◌≢◌, List, length, ◌==◌, slice_index, Option, Some, None}
 use Rattle.rules.specs.declared.State.{State}
 use Rattle.rules.specs.Numbers.{while_writing}
-use Rattle.checks.specs.declared.table.FreeSlot.{FreeSlot}
-use Rattle.checks.specs.declared.table.FreeSlot.TheVariants.{At, Nothing}
 
 -- the codes allowed while Writing, and else
 unfoldable pub allowed_while : Bool → State → Bool
@@ -24,6 +21,11 @@ wanted block vacant word = of_block block word && cond vacant (word == 0) (not (
 abbrev pub Skipped : (ℕ → Bool) → List ℕ → ℕ → ℕ → Type 0
 Skipped test table start end = (i : ℕ) → start ≤ i → i < end → test (slice_index table i) ≡ false
 
+-- the first word that passes a test among so many from a slot on, counted from that slot, or none
+abbrev pub Among : (ℕ → Bool) → List ℕ → ℕ → ℕ → Option ℕ → Type 0
+Among test table start count None = Skipped test table start (start + count)
+Among test table start count (Some offset) = (offset < count) × Skipped test table start (start + offset) × (test (slice_index table (start + offset)) ≡ true)
+
 -- the lowest slot from a start on whose word passes a test, or the number of slots
 pub record Next (test : ℕ → Bool) (table : List ℕ) (start slot : ℕ) : Type 0 where
   pub after : start ≤ slot
@@ -31,11 +33,20 @@ pub record Next (test : ℕ → Bool) (table : List ℕ) (start slot : ℕ) : Ty
   pub between : (i : ℕ) → start ≤ i → i < slot → test (slice_index table i) ≡ false
   pub here : slot < length table → test (slice_index table slot) ≡ true
 
+-- the slot from a start on, if there is one
+abbrev pub NextOf : (ℕ → Bool) → List ℕ → ℕ → Option ℕ → Type 0
+NextOf test table start None = Next test table start (length table)
+NextOf test table start (Some slot) = Next test table start slot × (slot < length table)
+
 -- the same from the first slot on
 pub record Lowest (test : ℕ → Bool) (table : List ℕ) (slot : ℕ) : Type 0 where
   pub within : slot ≤ length table
   pub before : (i : ℕ) → i < slot → test (slice_index table i) ≡ false
   pub here : slot < length table → test (slice_index table slot) ≡ true
+
+abbrev pub LowestOf : (ℕ → Bool) → List ℕ → Option ℕ → Type 0
+LowestOf test table None = Lowest test table (length table)
+LowestOf test table (Some slot) = Lowest test table slot × (slot < length table)
 
 -- a table word that is free or names a block of some board
 pub record FormedWord (word : ℕ) : Type 0 where
@@ -45,7 +56,3 @@ pub record FormedWord (word : ℕ) : Type 0 where
 
 abbrev pub Formed : List ℕ → Type 0
 Formed table = (i : ℕ) → i < length table → FormedWord (slice_index table i)
-
-abbrev pub slot_of : FreeSlot → Option ℕ
-slot_of (At slot) = some slot
-slot_of Nothing = none

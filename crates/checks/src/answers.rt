@@ -8,14 +8,9 @@ use rules::{Answer, Controller, Number, Phase};
 pub fn switched_off(controller: Controller) -> Controller
     ensures { result ≡ off_of controller }
 {
-    let geometry = controller.geometry;
-    let registers = controller.registers;
-    let finished = controller.finished;
     Controller {
-        geometry: geometry,
-        registers: registers,
-        finished: finished,
         phase: Phase::Off,
+        ..controller
     }
 }
 
@@ -23,9 +18,9 @@ pub fn reply(number: Number, words: usize, controller: Controller) -> Answer
     ensures { result ≡ answer_of number words controller }
 {
     Answer {
-        number: number,
-        words: words,
-        controller: controller,
+        number,
+        words,
+        controller,
     }
 }
 
@@ -41,8 +36,7 @@ pub fn ended(words: usize, controller: Controller, p: usize) -> Answer
     ensures { result ≡ ended_of p words controller }
 {
     if p < words {
-        let off = switched_off(controller);
-        return reply(Number::Cut, p, off);
+        return reply(Number::Cut, p, switched_off(controller));
     }
     reply(Number::Done, words, controller)
 }

@@ -6,7 +6,7 @@ ghost use Rattle.rules.specs.Numbers as N;
 ghost use Rattle.checks.specs.Tables.{allowed_while};
 ghost use Rattle.checks.specs.Forms as F;
 
-use super::numbers::is_writing;
+use super::walks::walk_table;
 use rules::{Geometry, Phase};
 use std::num::wrapping_add_u64;
 
@@ -54,16 +54,5 @@ pub fn table_formed(table: &[u64], phase: Phase, g: Geometry) -> bool
     requires { (1 ≤ g.blocks) × (g.blocks ≤ 4096) }
     ensures { result ≡ every (N.well_formed (N.allows phase) g) table.now }
 {
-    let writing = is_writing(phase);
-    let added = margin(g);
-    let mut flawed = 0u64;
-    let mut seen = 0u64;
-    let mut slot = 0;
-    while slot < table.len() {
-        let word = table[slot];
-        flawed = flawed | flaws(word, added);
-        seen = seen | watched(word, writing);
-        slot += 1;
-    }
-    all_formed(flawed, seen)
+    walk_table(table, phase, g, |_| 0).is_some()
 }

@@ -6,3 +6,4 @@ pub mod forms;
 pub mod numbers;
 pub mod slots;
 pub mod table;
+pub mod walks;

@@ -2,95 +2,56 @@
 ghost use Rattle.std.specs.Prelude.{◌≡◌, ◌<◌, ◌≤◌};
 ghost use Rattle.rules.specs.TableWords as W;
 ghost use Rattle.rules.specs.Stores.{slot_for};
-ghost use Rattle.checks.specs.Tables.{Formed, slot_of};
+ghost use Rattle.checks.specs.Tables.{Formed};
 
 use super::slots::slot_of;
-use rules::{Lookup, State};
+use rules::{Entry, State};
 
-#[derive(Clone, Copy)]
-pub enum FreeSlot {
-    At(usize),
-    Nothing,
-}
-
-pub fn code_of(state: State) -> u64
-    ensures { result ≡ W.code_of state }
-{
-    match state {
-        State::Clean => 1,
-        State::Dirty => 2,
-        State::Hidden => 3,
-        State::PreHidden => 4,
-        State::PreDirty => 5,
-    }
-}
-
-pub fn state_of(code: u64) -> State
-    requires { (1 ≤ code) × (code ≤ 5) }
-    ensures { W.code_of result ≡ code }
-{
-    match code {
-        1 => State::Clean,
-        2 => State::Dirty,
-        3 => State::Hidden,
-        4 => State::PreHidden,
-        _ => State::PreDirty,
-    }
-}
-
+#[tactic(auto, unfolding(rules::specs::TableWords::word_of))]
 pub fn word_of(block: usize, state: State) -> u64
     requires { block < 4096 }
     ensures { result ≡ W.word_of block state }
 {
-    256 * (block as u64) + code_of(state)
+    256 * (block as u64) + u64::from(state)
 }
 
-pub fn lookup(table: &[u64], block: usize) -> Lookup
+// The state of a code that stands for one.
+// No TryFrom: here the code is known to stand for a state.
+pub fn state_of(code: u64) -> State
+    requires { (1 ≤ code) × (code ≤ 5) }
+    ensures { W.code_of result ≡ code }
+{
+    State::try_from(code).unwrap()
+}
+
+pub fn lookup(table: &[u64], block: usize) -> Option<Entry>
     requires { Formed table.now × (block < 4096) }
     ensures { result ≡ W.lookup block table.now }
 {
-    let slot = slot_of(table, block as u32, false);
-    if slot >= table.len() {
-        return Lookup::Nothing;
-    }
+    let slot = slot_of(table, block as u32, false)?;
     let state = state_of(table[slot] % 256);
-    Lookup::Entry {
-        slot: slot,
-        state: state,
-    }
+    Some(Entry { slot, state })
 }
 
-pub fn lowest_free(table: &[u64]) -> FreeSlot
-    ensures { slot_of result ≡ W.lowest_free table.now }
+pub fn lowest_free(table: &[u64]) -> Option<usize>
+    ensures { result ≡ W.lowest_free table.now }
 {
-    let slot = slot_of(table, 0, true);
-    if slot >= table.len() {
-        return FreeSlot::Nothing;
-    }
-    FreeSlot::At(slot)
+    slot_of(table, 0, true)
 }
 
 // What a store needs of the table: its block's entry, and its slot, that of the entry or else the lowest free one.
 #[derive(Clone, Copy)]
 pub struct Seat {
-    pub found: Lookup,
-    pub slot: FreeSlot,
+    pub found: Option<Entry>,
+    pub slot: Option<usize>,
 }
 
+#[tactic(auto, unfolding(rules::specs::Stores::slot_for))]
 pub fn seat_for(table: &[u64], block: usize) -> Seat
     requires { Formed table.now × (block < 4096) }
-    ensures { (result.found ≡ W.lookup block table.now) × (slot_of result.slot ≡ slot_for result.found (W.lowest_free table.now)) }
+    ensures { (result.found ≡ W.lookup block table.now) × (result.slot ≡ slot_for result.found (W.lowest_free table.now)) }
 {
     let found = lookup(table, block);
-    let Lookup::Entry { slot, .. } = found else {
-        let free = lowest_free(table);
-        return Seat {
-            found: found,
-            slot: free,
-        };
-    };
-    Seat {
-        found: found,
-        slot: FreeSlot::At(slot),
-    }
+    let slot = found.map(|entry| entry.slot).or_else(|| lowest_free(table));
+    Seat { found, slot }
 }

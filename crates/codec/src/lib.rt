@@ -12,12 +12,13 @@ ghost use Rattle.codec.specs.Promises.{Bytes};
 
 use fields::{put_field, put_number_field};
 use rules::{Backup, Controller, Geometry, Phase};
-use words::copy_part;
 
 pub mod tables;
 
+// The record's bytes are a slice and no array, since C lends a slice: its length stands in the contracts.
 pub const RECORD_BYTES: usize = 90;
 
+// Byte by byte: a comparison of slices may ask a C host for memcmp.
 // Whether a field of this tag and of so many bytes, fewer than 256, begins at a place.
 fn begins_at(bytes: &[u8], start: usize, tag: u8, size: u8) -> bool
     requires { start + 3 ≤ length bytes.now }
@@ -46,11 +47,47 @@ fn is_backup(byte: u8) -> bool
     (byte == 1) | (byte == 2)
 }
 
-// Whether the byte is a phase's, 0, 1 or 2, with a count of 0 unless Writing.
-fn is_phase(byte: u8, count: u16) -> bool
-    ensures { result ≡ P.is_phase byte count }
-{
-    (byte == 1) | ((count == 0) & ((byte == 0) | (byte == 2)))
+// The phase as two fields say it: its byte, and its count of words.
+#[derive(Clone, Copy, Debug, PartialEq, Eq)]
+struct PhaseFields {
+    byte: u8,
+    count: u16,
+}
+
+impl PhaseFields {
+    // Whether the byte is a phase's, 0, 1 or 2, with a count of 0 unless Writing.
+    #[tactic(auto, unfolding(crate::specs::Places::is_phase))]
+    fn is_phase(self) -> bool
+        ensures { result ≡ P.is_phase self.byte self.count }
+    {
+        (self.byte == 1) | ((self.count == 0) & ((self.byte == 0) | (self.byte == 2)))
+    }
+}
+
+impl From<Phase> for PhaseFields {
+    ghost from_gives = { λ phase fields. (fields.byte ≡ E.phase_byte phase) × (fields.count ≡ count_of phase) };
+
+    #[tactic(auto, unfolding(rules::specs::Checkpoints::count_of))]
+    fn from(phase: Phase) -> PhaseFields {
+        match phase {
+            Phase::Running => PhaseFields { byte: 0, count: 0 },
+            Phase::Writing(count) => PhaseFields { byte: 1, count },
+            Phase::Off => PhaseFields { byte: 2, count: 0 },
+        }
+    }
+}
+
+// Of every byte, and no TryFrom: a recovery takes any 90 bytes for a record.
+impl From<PhaseFields> for Phase {
+    ghost from_gives = { λ fields phase. phase ≡ S.phase_for fields.byte fields.count };
+
+    fn from(fields: PhaseFields) -> Phase {
+        match fields.byte {
+            0 => Phase::Running,
+            1 => Phase::Writing(fields.count),
+            _ => Phase::Off,
+        }
+    }
 }
 
 // A two-byte number. That bytes are below 256 is known where one is read.
@@ -58,7 +95,17 @@ fn number_in(bytes: &[u8], start: usize) -> u16
     requires { start + 2 ≤ length bytes.now }
     ensures { (result ≡ S.number_at bytes.now start) × Bytes bytes.now }
 {
-    256 * (bytes[start] as u16) + (bytes[start + 1] as u16)
+    256 * u16::from(bytes[start]) + u16::from(bytes[start + 1])
+}
+
+fn phase_fields_in(bytes: &[u8]) -> PhaseFields
+    requires { length bytes.now ≡ 90 }
+    ensures { (result.byte ≡ get_or bytes.now 84 0) × (result.count ≡ S.number_at bytes.now 88) × Bytes bytes.now }
+{
+    PhaseFields {
+        byte: bytes[84],
+        count: number_in(bytes, 88),
+    }
 }
 
 pub fn is_record(bytes: &[u8]) -> bool
@@ -67,23 +114,14 @@ pub fn is_record(bytes: &[u8]) -> bool
     if bytes.len() != RECORD_BYTES {
         return false;
     }
-    has_fields(bytes) & is_backup(bytes[80]) & is_phase(bytes[84], number_in(bytes, 88))
+    has_fields(bytes) & is_backup(bytes[80]) & phase_fields_in(bytes).is_phase()
 }
 
+// Of every byte, as the phase is. Both types of a From would be another crate's, so this is a function.
 fn backup_for(byte: u8) -> Backup
     ensures { result ≡ S.backup_for byte }
 {
     if byte == 1 { Backup::A } else { Backup::B }
-}
-
-fn phase_for(byte: u8, count: u16) -> Phase
-    ensures { result ≡ S.phase_for byte count }
-{
-    match byte {
-        0 => Phase::Running,
-        1 => Phase::Writing(count),
-        _ => Phase::Off,
-    }
 }
 
 fn registers_in(bytes: &[u8]) -> [u8; 64]
@@ -91,7 +129,7 @@ fn registers_in(bytes: &[u8]) -> [u8; 64]
     ensures { result ≡ take 64 (drop 13 bytes.now) }
 {
     let mut registers = [0u8; 64];
-    copy_part(bytes, 13, &mut registers);
+    registers.copy_from_slice(&bytes[13..77]);
     registers
 }
 
@@ -106,37 +144,7 @@ pub fn record_in(bytes: &[u8]) -> Controller
         },
         registers: registers_in(bytes),
         finished: backup_for(bytes[80]),
-        phase: phase_for(bytes[84], number_in(bytes, 88)),
-    }
-}
-
-fn backup_byte(backup: Backup) -> u8
-    ensures { result ≡ E.backup_byte backup }
-{
-    match backup {
-        Backup::A => 1,
-        Backup::B => 2,
-    }
-}
-
-fn phase_byte(phase: Phase) -> u8
-    ensures { result ≡ E.phase_byte phase }
-{
-    match phase {
-        Phase::Running => 0,
-        Phase::Writing(_) => 1,
-        Phase::Off => 2,
-    }
-}
-
-// The count, 0 unless Writing.
-fn count_in(phase: Phase) -> u16
-    ensures { result ≡ count_of phase }
-{
-    match phase {
-        Phase::Running => 0,
-        Phase::Writing(count) => count,
-        Phase::Off => 0,
+        phase: Phase::from(phase_fields_in(bytes)),
     }
 }
 
@@ -144,22 +152,18 @@ fn put_byte_field(into: &mut [u8], start: usize, tag: u8, byte: u8) -> usize
     requires { start + 4 ≤ length into.old }
     ensures { Puts (field tag (byte ∷ [])) start into.old into.new result }
 {
-    let value = [byte];
-    put_field(into, start, tag, &value)
+    put_field(into, start, tag, &[byte])
 }
 
 pub fn put_record(into: &mut [u8], controller: Controller)
     requires { length into.old ≡ 90 }
     ensures { into.new ≡ E.encoded controller }
 {
-    let g = controller.geometry;
-    let registers = controller.registers;
-    let finished = controller.finished;
-    let phase = controller.phase;
-    put_number_field(into, 0, 1, g.blocks);
-    put_number_field(into, 5, 2, g.slots);
-    put_field(into, 10, 3, &registers);
-    put_byte_field(into, 77, 4, backup_byte(finished));
-    put_byte_field(into, 81, 5, phase_byte(phase));
-    put_number_field(into, 85, 6, count_in(phase));
+    let phase = PhaseFields::from(controller.phase);
+    put_number_field(into, 0, 1, controller.geometry.blocks);
+    put_number_field(into, 5, 2, controller.geometry.slots);
+    put_field(into, 10, 3, &controller.registers);
+    put_byte_field(into, 77, 4, u64::from(controller.finished) as u8);
+    put_byte_field(into, 81, 5, phase.byte);
+    put_number_field(into, 85, 6, phase.count);
 }

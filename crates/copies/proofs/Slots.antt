@@ -2,7 +2,7 @@
 use mathlib.Core.Path.{◌≡◌, refl, sym, ap, ◌∙◌}
 use mathlib.Core.List.{List, [], ◌∷◌, ◌++◌, map, append_assoc, append-nil}
 use mathlib.Core.Bool.{Bool, true}
-use Prim.Native.Nat.{ℕ, zero, suc, ◌+◌, ◌*◌, ◌-◌, ◌≤◌, ◌<◌}
+use Prim.Native.Nat.{ℕ, zero, suc, ◌+◌, ◌*◌, ◌/◌, ◌%◌, ◌-◌, ◌≤◌, ◌<◌}
 use native.Mathlib.Omega.{arith}
 use native.Mathlib.Nat.{add-zero}
 use native.Mathlib.Numerals.{add-one}
@@ -17,7 +17,13 @@ use Rattle.rules.specs.declared.Geometry.{Geometry}
 use Rattle.rules.specs.TableWords.{says, every}
 use Rattle.rules.specs.Checkpoints.{copied_to, copy_of, copies}
 use Rattle.rules.proofs.Changing.{every_all, all_get}
-use Rattle.copies.proofs.Words.{few_words}
+use Rattle.rules.specs.declared.State.{State}
+use Rattle.rules.specs.Numbers.{well_formed}
+use Rattle.checks.specs.Tables.{Formed, FormedWord}
+use Rattle.checks.proofs.Words.{formed_word}
+use Rattle.std.specs.List.{sum_by}
+use Rattle.std.proofs.lemmas.List.Sums.{sum_by-cons}
+use Rattle.copies.proofs.Words.{few_words, copied_blocks}
 
 -- ---- the bytes of a CACHE block
 
@@ -39,9 +45,6 @@ tail_block cache slot place =
     ap (bytes_to place 8) (tail_part (64 * slot) cache) ∙ sym (bytes_to-take 8 place (drop (64 * slot) cache)) ∙ ap (bytes_to place 8) (sym (block_part cache slot))
 
 -- ---- the list, slot by slot
-
-pub mul-sum : (a b : ℕ) → 8 * (a + b) ≡ 8 * a + 8 * b
-mul-sum a b = omega arith
 
 pub slot_formed : (test : ℕ → Bool) (table : List ℕ) (slot : ℕ) → every test table ≡ true → slot < length table → test (get_or table slot 0) ≡ true
 slot_formed test table slot e h = all_get slot (every_all test table e) h
@@ -67,11 +70,6 @@ module _ (g : Geometry) (cache : List ℕ) where
       ∙ copies_last 0 (take slot table) (get_or table slot 0)
       ∙ ap (λ (k : ℕ). copies g cache 0 (take slot table) ++ copy_at k (get_or table slot 0)) e
 
-  -- counted
-  pub count_more : (table : List ℕ) (slot : ℕ) {done r : ℕ} → slot < length table → done ≡ length (copies g cache 0 (take slot table))
-      → r ≡ length (copy_at slot (get_or table slot 0)) → done + r ≡ length (copies g cache 0 (take (slot + 1) table))
-  count_more table slot h e f = rw (one_copy_more table slot h, length-append, e, f)
-
   -- laid under an allowance
   pub lays_more : (table : List ℕ) (slot p left : ℕ) {memory memory' memory'' : List ℕ} {done r : ℕ} → slot < length table
       → Lays p (copies g cache 0 (take slot table)) memory memory' done → left ≡ p - done
@@ -88,6 +86,32 @@ module _ (g : Geometry) (cache : List ℕ) where
       ∙ ap (λ (z : List Store). lay z memory') (take_all 8 here (few_words cache slot _))
       ∙ ap (lay here) e
       ∙ sym (ap (λ (z : List Store). lay z memory) (one_copy_more table slot h) ∙ lay-append (copies g cache 0 (take slot table)) here memory)
+
+-- ---- counted
+
+-- how many blocks begin copies for a well formed word, by its code
+abbrev pub blocks_by : ℕ → ℕ
+blocks_by word = word % 256 / 4
+
+pub one_word : (allowed : State → Bool) (g : Geometry) → g.blocks ≤ 4096 → (word n : ℕ) → well_formed allowed g word ≡ true
+    → (FormedWord word → (h : Geometry) (cache : List ℕ) (slot : ℕ) → 8 * n ≡ length (copy_of cache slot (copied_to h slot (says word)))) → n ≡ blocks_by word
+one_word allowed g few word n formed counts =
+    let f = formed_word allowed g word few formed in
+    let e = counts f g [] 0 in
+    let here = copied_blocks [] 0 g word f in
+    omega arith
+
+pub blocks_summed : (g : Geometry) (cache : List ℕ) (slot : ℕ) (table : List ℕ) → Formed table → 8 * sum_by blocks_by table ≡ length (copies g cache slot table)
+unfolding copies
+blocks_summed g cache slot [] f = refl
+blocks_summed g cache slot (word ∷ table) f =
+    let here = copied_blocks cache slot g word (f 0 (omega arith)) in
+    let rest = blocks_summed g cache (suc slot) table (λ i l. f (suc i) (omega arith)) in
+    rw (sum_by-cons, length-append) (omega (arith, here, rest))
+
+pub few_blocks : (table : List ℕ) → sum_by blocks_by table ≤ 63 * length table
+few_blocks [] = omega arith
+few_blocks (word ∷ table) = let rest = few_blocks table in rw sum_by-cons (omega arith)
 
 -- ---- the table, word by word
 

@@ -3,7 +3,7 @@ use mathlib.Core.Path.{◌≡◌, refl, sym, ap, ◌∙◌}
 use mathlib.Core.Logic.{◌≢◌}
 use mathlib.Core.Bool.{Bool, true}
 use mathlib.Core.List.{List}
-use mathlib.Core.Option.{Option, none, some}
+use Rattle.std.specs.Prelude.{Option, None, Some}
 use Prim.Native.Nat.{ℕ, ◌+◌, ◌*◌, ◌/◌, ◌%◌, ◌≤◌}
 use native.Mathlib.Omega.{arith}
 use native.Mathlib.Decide.{ℕ_discrete}
@@ -27,14 +27,14 @@ use Rattle.checks.specs.Tables.{FormedWord}
 
 module _ (next : State → Option State) (word : ℕ) where
   -- an entry that becomes clean
-  pub made_clean : (r : ℕ) (state : State) → word % 256 ≡ code_of state → next state ≡ some Clean → r + code_of state ≡ word + 1 → r ≡ changed next word
+  pub made_clean : (r : ℕ) (state : State) → word % 256 ≡ code_of state → next state ≡ Some Clean → r + code_of state ≡ word + 1 → r ≡ changed next word
   unfolding entry_or word_of
   made_clean r state e n q =
       let h : r ≡ 256 * (word / 256) + 1 = omega arith in
       h ∙ sym (changed_entry next word (word / 256) state (coded word state e) ∙ ap (entry_or (word / 256)) n)
 
   -- a word that goes free, or was no entry
-  pub made_free : ((state : State) → word % 256 ≡ code_of state → next state ≡ none) → 0 ≡ changed next word
+  pub made_free : ((state : State) → word % 256 ≡ code_of state → next state ≡ None) → 0 ≡ changed next word
   unfolding changed changed_by entry_or
   made_free h = go (says word) refl
     where
@@ -43,7 +43,7 @@ module _ (next : State → Option State) (word : ℕ) where
       go neither e = rw e
       go (names block state) e = rw (e, h state (code_named word block state e))
 
-pub not_begun : (code : ℕ) → code ≢ 1 → code ≢ 2 → code ≢ 5 → (state : State) → code ≡ code_of state → begun state ≡ none
+pub not_begun : (code : ℕ) → code ≢ 1 → code ≢ 2 → code ≢ 5 → (state : State) → code ≡ code_of state → begun state ≡ None
 unfolding begun
 not_begun code a b c Clean e = absurd (a e)
 not_begun code a b c Dirty e = absurd (b e)
@@ -51,7 +51,7 @@ not_begun code a b c Hidden e = refl
 not_begun code a b c PreHidden e = refl
 not_begun code a b c PreDirty e = absurd (c e)
 
-pub not_saved : (code : ℕ) → code ≢ 1 → code ≢ 4 → (state : State) → code ≡ code_of state → saved state ≡ none
+pub not_saved : (code : ℕ) → code ≢ 1 → code ≢ 4 → (state : State) → code ≡ code_of state → saved state ≡ None
 unfolding saved
 not_saved code a b Clean e = absurd (a e)
 not_saved code a b Dirty e = refl
@@ -62,19 +62,19 @@ not_saved code a b PreDirty e = refl
 -- ---- where the CACHE block goes
 
 module _ (g : Geometry) (slot word : ℕ) where
-  pub to_home : word % 256 ≡ 4 → copied_to g slot (says word) ≡ some (word / 256)
+  pub to_home : word % 256 ≡ 4 → copied_to g slot (says word) ≡ Some (word / 256)
   unfolding copied_to
   to_home e = ap (copied_to g slot) (coded word PreHidden e)
 
-  pub to_checkpoint : word % 256 ≡ 5 → copied_to g slot (says word) ≡ some (g.blocks + slot)
+  pub to_checkpoint : word % 256 ≡ 5 → copied_to g slot (says word) ≡ Some (g.blocks + slot)
   unfolding copied_to
   to_checkpoint e = ap (copied_to g slot) (coded word PreDirty e)
 
-  pub to_nowhere : word % 256 ≢ 4 → word % 256 ≢ 5 → copied_to g slot (says word) ≡ none
+  pub to_nowhere : word % 256 ≢ 4 → word % 256 ≢ 5 → copied_to g slot (says word) ≡ None
   unfolding copied_to
   to_nowhere a b = go (says word) refl
     where
-      go : (x : Says) → says word ≡ x → copied_to g slot x ≡ none
+      go : (x : Says) → says word ≡ x → copied_to g slot x ≡ None
       go free e = refl
       go neither e = refl
       go (names block Clean) e = refl
@@ -84,11 +84,11 @@ module _ (g : Geometry) (slot word : ℕ) where
       go (names block PreDirty) e = absurd (b (code_named word block PreDirty e))
 
   -- no further than the slot's own block
-  pub target_inside : (allowed : State → Bool) (q : ℕ) → well_formed allowed g word ≡ true → some q ≡ copied_to g slot (says word) → q ≤ g.blocks + slot
+  pub target_inside : (allowed : State → Bool) (q : ℕ) → well_formed allowed g word ≡ true → Some q ≡ copied_to g slot (says word) → q ≤ g.blocks + slot
   unfolding well_formed well_said copied_to
   target_inside allowed q = go (says word)
     where
-      go : (x : Says) → well_said allowed g x ≡ true → some q ≡ copied_to g slot x → q ≤ g.blocks + slot
+      go : (x : Says) → well_said allowed g x ≡ true → Some q ≡ copied_to g slot x → q ≤ g.blocks + slot
       go free f e = absurd (none_some q (sym e))
       go neither f e = absurd (none_some q (sym e))
       go (names block Clean) f e = absurd (none_some q (sym e))
@@ -103,11 +103,11 @@ module _ (g : Geometry) (slot word : ℕ) where
 -- ---- how many words the copy has
 
 module _ (cache : List ℕ) (slot : ℕ) where
-  pub eight_words : {to : Option ℕ} (q : ℕ) → to ≡ some q → 8 ≡ length (copy_of cache slot to)
+  pub eight_words : {to : Option ℕ} (q : ℕ) → to ≡ Some q → 8 ≡ length (copy_of cache slot to)
   unfolding copy_of bytes_to
   eight_words q e = rw e
 
-  pub no_words : {to : Option ℕ} → to ≡ none → 0 ≡ length (copy_of cache slot to)
+  pub no_words : {to : Option ℕ} → to ≡ None → 0 ≡ length (copy_of cache slot to)
   unfolding copy_of
   no_words e = rw e
 
@@ -124,15 +124,15 @@ module _ (cache : List ℕ) (slot : ℕ) where
       ]
 
   pub few_words : (to : Option ℕ) → length (copy_of cache slot to) ≤ 8
-  few_words none = let e = no_words refl in omega arith
-  few_words (some q) = let e = eight_words q refl in omega arith
+  few_words None = let e = no_words refl in omega arith
+  few_words (Some q) = let e = eight_words q refl in omega arith
 
   -- the copy laid at its place
-  pub copied : {p r : ℕ} {memory memory' : List ℕ} {to : Option ℕ} (q place : ℕ) → to ≡ some q → place ≡ 8 * q
+  pub copied : {p r : ℕ} {memory memory' : List ℕ} {to : Option ℕ} (q place : ℕ) → to ≡ Some q → place ≡ 8 * q
       → Lays p (bytes_to place 8 (block_at cache slot)) memory memory' r → Lays p (copy_of cache slot to) memory memory' r
   unfolding copy_of
   copied q place e f l = rw e (rw f at l)
 
-  pub not_copied : {to : Option ℕ} (p : ℕ) (memory : List ℕ) → to ≡ none → Lays p (copy_of cache slot to) memory memory 0
+  pub not_copied : {to : Option ℕ} (p : ℕ) (memory : List ℕ) → to ≡ None → Lays p (copy_of cache slot to) memory memory 0
   unfolding copy_of
   not_copied p memory e = rw e (lays_nothing p memory)

@@ -1,12 +1,11 @@
 // Repeats one call on a prepared board, so that the instructions of a call can be counted as a difference. tests/cost/measure says how.
 #![tactic(auto)]
 
-use board::{Answer, Recovery, begin, format, load, recover, step, store, sweep};
-use case::Case;
-use checks::numbers::number_of;
-use rules::{Controller, Number};
-use std::io::Stdout;
-use words::least;
+use board::{Answer, begin, format, load, recover, step, store, sweep};
+use case::{Call, Case};
+use rules::{Controller, Geometry, Number};
+use std::io::{Stdin, Stdout};
+use std::{fmt, io};
 
 mod case;
 
@@ -17,152 +16,198 @@ struct Given {
     words: usize,
 }
 
-fn gave(answer: Answer) -> Given {
-    let number = answer.number;
-    Given {
-        number: number,
-        words: answer.words,
+impl From<Answer> for Given {
+    fn from(answer: Answer) -> Given {
+        Given {
+            number: answer.number,
+            words: answer.words,
+        }
     }
 }
 
-fn recovered(recovery: Recovery) -> Given {
-    let answer = recovery.answer;
-    gave(answer)
-}
-
-fn nothing(number: Number) -> Given {
-    Given {
-        number: number,
-        words: 0,
+// A call that stores nothing gives its number alone.
+impl From<Number> for Given {
+    fn from(number: Number) -> Given {
+        Given { number, words: 0 }
     }
 }
 
-// Begin, and one step for the rest of the checkpoint.
-fn checkpoint(
-    memory: &mut [u8],
-    cache: &[u8],
-    table: &mut [u64],
-    controller: Controller,
-    registers: &[u8],
-    p: usize,
-) -> Given {
-    let begun = begin(memory, cache, table, controller, registers, p);
-    let writing = begun.controller;
-    let finished = step(memory, cache, table, writing, p, p);
-    gave(finished)
-}
-
-// The case's call, once.
-fn call(
-    memory: &mut [u8],
-    cache: &mut [u8],
-    table: &mut [u64],
-    case: Case,
-    bytes: &mut [u8],
-) -> Given {
-    let controller = case.controller;
-    let g = controller.geometry;
-    let block = case.block;
-    let offset = case.offset;
-    let p = case.allowance;
-    let call = case.call;
-    match call {
-        1 => nothing(load(memory, cache, table, controller, block, offset, bytes)),
-        2 => gave(store(memory, cache, table, controller, block, offset, bytes, p)),
-        3 => gave(begin(memory, cache, table, controller, bytes, p)),
-        4 => gave(step(memory, cache, table, controller, 1, p)),
-        5 => checkpoint(memory, cache, table, controller, bytes, p),
-        6 => gave(format(memory, cache, table, controller, g, 0, p)),
-        7 => recovered(recover(memory, cache, table, controller, g)),
-        8 => gave(sweep(memory, cache, table, controller, 512, p)),
-        _ => nothing(Number::Done),
+impl fmt::Display for Given {
+    fn fmt<W: fmt::Write>(&self, f: &mut fmt::Formatter<W>) -> fmt::Result {
+        write!(f, "{} {}", u64::from(self.number), self.words)
     }
 }
 
-fn repeat(
-    memory: &mut [u8],
-    cache: &mut [u8],
-    table: &mut [u64],
-    case: Case,
-    bytes: &mut [u8],
-) -> Given {
-    let mut kept = [0u64; 512];
-    case::prepare_table(&mut kept, case);
-    let mut last = nothing(Number::Done);
-    let mut left = case.repeats;
-    while 0 < left {
-        case::take_table(table, &kept);
-        last = call(memory, cache, table, case, bytes);
-        left -= 1;
+// The lengths lent: bytes of the memory, bytes of CACHE, words of the table.
+#[derive(Clone, Copy)]
+struct Lengths {
+    memory: usize,
+    cache: usize,
+    table: usize,
+}
+
+// As in the program `vectors`, which has arrays of other sizes: the two share no crate.
+impl Lengths {
+    fn exact(g: Geometry) -> Lengths {
+        let slots = usize::from(g.slots);
+        Lengths {
+            memory: 8 * g.memory_words(),
+            cache: 64 * slots,
+            table: slots,
+        }
     }
-    last
 }
 
-// A board that is formatted and has the case's table in its finished backup.
-fn prepare_memory(memory: &mut [u8], cache: &[u8], table: &mut [u64], case: Case) {
-    let registers = [7u8; 64];
-    let controller = case.controller;
-    let g = controller.geometry;
-    let p = usize::MAX;
-    let formatted = format(memory, cache, table, controller, g, 0, p);
-    case::prepare_table(table, case);
-    let running = formatted.controller;
-    checkpoint(memory, cache, table, running, &registers, p);
+// What a call is lent.
+#[derive(Drop)]
+struct Lent<'a> {
+    memory: &'a mut [u8],
+    cache: &'a mut [u8],
+    table: &'a mut [u64],
 }
 
-fn print(out: Stdout, given: Given) {
-    let number = given.number;
-    streams::print_decimal(out, number_of(number));
-    streams::write_all(out, b" ");
-    streams::print_decimal(out, given.words as u64);
-    streams::write_all(out, b"\n");
-}
+impl Lent<'_> {
+    // Begin, and one step for the rest of the checkpoint.
+    fn checkpoint(self, controller: Controller, registers: &[u8], p: usize) -> Given {
+        let Lent {
+            memory,
+            cache,
+            table,
+        } = self;
+        let begun = begin(memory, cache, table, controller, registers, p);
+        let finished = step(memory, cache, table, begun.controller, p, p);
+        Given::from(finished)
+    }
 
-fn run(out: Stdout, memory: &mut [u8], cache: &mut [u8], table: &mut [u64], case: Case) {
-    let mut bytes = [5u8; 64];
-    let length = least(case.length, 64);
-    prepare_memory(memory, cache, table, case);
-    print(
-        out,
-        repeat(memory, cache, table, case, &mut bytes[0..length]),
-    );
-}
-
-// What is lent is exactly what the sizes ask for, as far as the arrays reach.
-fn lend(out: Stdout, memory: &mut [u8], cache: &mut [u8], table: &mut [u64], case: Case) {
-    let controller = case.controller;
-    let g = controller.geometry;
-    let slots = g.slots as usize;
-    let memory_end = least(8 * g.memory_words(), memory.len());
-    let cache_end = least(64 * slots, cache.len());
-    let table_end = least(slots, table.len());
-    run(
-        out,
-        &mut memory[0..memory_end],
-        &mut cache[0..cache_end],
-        &mut table[0..table_end],
-        case,
-    );
+    // The case's call, once.
+    fn call(self, case: Case, bytes: &mut [u8]) -> Given {
+        let Lent {
+            memory,
+            cache,
+            table,
+        } = self;
+        let Case {
+            controller: c,
+            block,
+            offset,
+            allowance: p,
+            ..
+        } = case;
+        match case.call {
+            None => Given::from(Number::Done),
+            Some(Call::Load) => Given::from(load(memory, cache, table, c, block, offset, bytes)),
+            Some(Call::Store) => Given::from(store(
+                memory, cache, table, c, block, offset, bytes, p,
+            )),
+            Some(Call::Begin) => Given::from(begin(memory, cache, table, c, bytes, p)),
+            Some(Call::Step) => Given::from(step(memory, cache, table, c, 1, p)),
+            Some(Call::Checkpoint) => {
+                let lent = Lent {
+                    memory,
+                    cache,
+                    table,
+                };
+                lent.checkpoint(c, bytes, p)
+            }
+            Some(Call::Format) => Given::from(format(memory, cache, table, c, c.geometry, 0, p)),
+            Some(Call::Recover) => Given::from(recover(memory, cache, table, c, c.geometry).answer),
+            Some(Call::Sweep) => Given::from(sweep(memory, cache, table, c, 512, p)),
+        }
+    }
 }
 
 // The arrays of the largest board that is measured: 4,096 blocks and 512 slots.
-fn measure(out: Stdout, case: Case) {
-    let mut memory = [0u8; 303240];
-    let mut cache = [0u8; 32768];
-    let mut table = [0u64; 512];
-    lend(out, &mut memory, &mut cache, &mut table, case);
+#[derive(Drop)]
+struct Bench {
+    memory: [u8; 303240],
+    cache: [u8; 32768],
+    table: [u64; 512],
+    lengths: Lengths,
+}
+
+impl Bench {
+    // What the lengths say, as far as the arrays reach.
+    fn lend(&mut self) -> Lent<'_> {
+        let lengths = self.lengths;
+        let Bench {
+            memory,
+            cache,
+            table,
+            ..
+        } = self;
+        Lent {
+            memory: &mut memory[..lengths.memory.min(303240)],
+            cache: &mut cache[..lengths.cache.min(32768)],
+            table: &mut table[..lengths.table.min(512)],
+        }
+    }
+
+    // A board that is formatted and has the case's table in its finished backup.
+    fn prepare(&mut self, case: &Case) {
+        let c = case.controller;
+        let p = usize::MAX;
+        let Lent {
+            memory,
+            cache,
+            table,
+        } = self.lend();
+        let formatted = format(memory, cache, table, c, c.geometry, 0, p);
+        case.put_table(&mut self.table);
+        self.lend().checkpoint(formatted.controller, &[7; 64], p);
+    }
+
+    // As often as the case says, each time with the case's table. What the last call gave.
+    fn repeat(&mut self, case: Case) -> Given {
+        let mut bytes = [5; 64];
+        let bytes = &mut bytes[..case.length.min(64)];
+        case.put_table(&mut self.table);
+        let kept = self.table;
+        let Lent {
+            memory,
+            cache,
+            table,
+        } = self.lend();
+        let mut last = Given::from(Number::Done);
+        for _ in 0..case.repeats {
+            for (entry, word) in table.iter_mut().zip(&kept) {
+                *entry = *word;
+            }
+            let lent = Lent {
+                memory: &mut *memory,
+                cache: &mut *cache,
+                table: &mut *table,
+            };
+            last = lent.call(case, bytes);
+        }
+        last
+    }
+}
+
+fn measure(case: &Case) -> Given {
+    let mut bench = Bench {
+        memory: [0; 303240],
+        cache: [0; 32768],
+        table: [0; 512],
+        lengths: Lengths::exact(case.controller.geometry),
+    };
+    bench.prepare(case);
+    bench.repeat(*case)
+}
+
+// Cases to the input's end.
+fn run(input: Stdin, out: Stdout) -> io::Result<()> {
+    // A count, since a loop has to be proved to end.
+    for _ in 0..u64::MAX {
+        let mut bytes = [0; 14];
+        if streams::read_full(input, &mut bytes) < 14 {
+            break;
+        }
+        println!(out; "{}", measure(&Case::from(bytes)))?;
+    }
+    Ok(())
 }
 
 fn main(rt: HostRuntime) {
-    let input = rt.stdin();
-    let out = rt.stdout();
-    let mut cases = u64::MAX;
-    while 0 < cases {
-        let mut bytes = [0u8; 14];
-        if streams::read_full(input, &mut bytes) < 14 {
-            return;
-        }
-        measure(out, case::case_in(&bytes));
-        cases -= 1;
-    }
+    // A write that fails ends the run, and the status stays 0.
+    let _ = run(rt.stdin(), rt.stdout());
 }

@@ -3,7 +3,7 @@ use mathlib.Core.Path.{◌≡◌, refl, sym, ap, ◌∙◌}
 use mathlib.Core.Logic.{◌≢◌}
 use mathlib.Core.Bool.{Bool, true, false, cond}
 use mathlib.Core.List.{List}
-use mathlib.Core.Option.{Option, none, some}
+use Rattle.std.specs.Prelude.{Option, None, Some}
 use Prim.Native.Nat.{ℕ}
 use native.Mathlib.Omega.{arith}
 use lib.Dec.{eqb, leb}
@@ -57,8 +57,8 @@ guarded n q s false e = refuses (eqb-false (number_of n) 0 e)
 
 from_says : (board : Board) (g : Geometry) (finished : Option Backup) → Says (recover_from board g finished)
 unfolding recover_from number_of
-from_says board g none = refuses {n = No.NoCheckpoint} (λ z. omega (arith, z))
-from_says board g (some backup) = carries
+from_says board g None = refuses {n = No.NoCheckpoint} (λ z. omega (arith, z))
+from_says board g (Some backup) = carries
 
 recovery_says : (board : Board) (g : Geometry) → Says (plan board (recover g))
 unfolding plan recover_plan guard
@@ -70,8 +70,8 @@ recovery_says board g =
 module _ (memory cache table : List ℕ) (k k' : Controller) (g : Geometry) where
   same_from : (finished : Option Backup) → recover_from (board_of memory cache table k) g finished ≡ recover_from (board_of memory cache table k') g finished
   unfolding recover_from
-  same_from none = refl
-  same_from (some backup) = refl
+  same_from None = refl
+  same_from (Some backup) = refl
 
   same_plan : plan (board_of memory cache table k) (recover g) ≡ plan (board_of memory cache table k') (recover g)
   unfolding plan recover_plan recover_number inexact

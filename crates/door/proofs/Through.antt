@@ -9,6 +9,7 @@ use lib.Dec.{eqb}
 use lib.ListN.{length}
 use borrow.Author.Tests.{eqb-false, eq-eqb, ne_eqb, not-false}
 use Rattle.words.specs.Words.{number_bytes}
+use Rattle.rules.specs.declared.Geometry.{Geometry}
 use Rattle.rules.specs.declared.Controller.{Controller}
 use Rattle.rules.specs.declared.Number.{Number}
 use Rattle.rules.specs.declared.Answer.{Answer}
@@ -28,11 +29,19 @@ use Rattle.codec.specs.Supposed.{supposed, is_record}
 use Rattle.tabled.specs.Tabled.{changes, Tabled, TabledRecovery}
 use Rattle.door.specs.declared.RostimelyAnswer.{RostimelyAnswer}
 use Rattle.door.specs.declared.RostimelyRecovery.{RostimelyRecovery}
+use Rattle.door.specs.declared.early.Early.{Early}
+use Rattle.door.specs.declared.early.Early.TheVariants as V
+use Rattle.door.specs.Early.{number_of_early}
 use Rattle.door.specs.Doors as D
 use Rattle.door.specs.Answers.{left_of, Loads, registers_flag, flag_of, Recovers}
 use Rattle.door.proofs.Sizes.{whole, record_ninety}
 
 -- ---- refused before the table is read
+
+pub early_not_0 : (early : Early) → number_of_early early ≢ 0
+early_not_0 V.RecordBytes e = omega (arith, e)
+early_not_0 V.Geometry e = omega (arith, e)
+early_not_0 V.Buffer e = omega (arith, e)
 
 module _ (p : ℕ) (lent : D.Lent) (x : Call) where
   pub refused_early : {n : ℕ} → n ≡ D.early x lent → n ≢ 0 → D.door p lent x ≡ D.refused n lent
@@ -43,22 +52,19 @@ module _ (p : ℕ) (lent : D.Lent) (x : Call) where
   unfolding D.door
   goes_on e z = rw (← e, eq-eqb _ 0 z)
 
--- ---- what is known of a record whose sizes and lengths pass
+-- ---- what is known where no record is refused, and then of sizes and lengths that pass
 
-module _ (record-bytes : List ℕ) (memory cache table : ℕ) {n : ℕ}
-    (e : n ≡ cond (not (is_record record-bytes)) 12 (D.sizes_number (supposed record-bytes).geometry memory cache table)) (z : n ≡ 0) where
-  apart : (b : Bool) → not (is_record record-bytes) ≡ b → (is_record record-bytes ≡ true) × (D.sizes_number (supposed record-bytes).geometry memory cache table ≡ 0)
-  apart true q = absurd (omega (arith, z, (rw q at e)))
-  apart false q = (not-false _ q, sym (rw q at e) ∙ z)
+-- 12 comes first
+pub passed : (b : Bool) (n : ℕ) → cond b 12 n ≡ 0 → (b ≡ false) × (n ≡ 0)
+passed true n e = absurd (omega (arith, e))
+passed false n e = (refl, e)
 
-  pub kept_record : length record-bytes ≡ 90
-  kept_record = record_ninety record-bytes (apart (not (is_record record-bytes)) refl).0
+pub kept_ninety : (record-bytes : List ℕ) (n : ℕ) → cond (not (is_record record-bytes)) 12 n ≡ 0 → length record-bytes ≡ 90
+kept_ninety record-bytes n e = record_ninety record-bytes (not-false _ (passed (not (is_record record-bytes)) n e).0)
 
-  kept : D.sizes_number (supposed record-bytes).geometry memory cache table ≡ 0
-  kept = (apart (not (is_record record-bytes)) refl).1
-
+module _ (b : Bool) (g : Geometry) (memory cache table : ℕ) (e : cond b 12 (D.sizes_number g memory cache table) ≡ 0) where
   pub kept_whole : (table ≡ 8 * (table / 8)) × (table ≤ 4096)
-  kept_whole = whole (supposed record-bytes).geometry memory cache table kept
+  kept_whole = whole g memory cache table (passed b (D.sizes_number g memory cache table) e).1
 
 -- ---- the board's own outcome as bytes
 

@@ -1,3 +1,4 @@
 pub mod Doors
 pub mod Answers
 pub mod Promises
+pub mod Early

@@ -1,23 +1,34 @@
 // What a door decides before it reads the table: 12 RECORD BYTES, 1 GEOMETRY and 2 BUFFER, in this order (document 02, No. 4).
-ghost use Rattle.std.specs.Prelude.{◌≡◌, cond, not, ◌≤◌, eqb, length};
-ghost use Rattle.codec.specs.Supposed.{supposed, is_record};
+ghost use Rattle.std.specs.Prelude.{◌≡◌, cond, not};
+ghost use Rattle.codec.specs.Supposed as S;
 ghost use Rattle.door.specs.Doors as D;
+ghost use Rattle.door.specs.Early.{number_of_early, Finds};
 
 use checks::numbers::outside;
-use codec::{RECORD_BYTES, is_record, record_in};
-use rules::Geometry;
+use codec::{is_record, record_in};
+use rules::{Controller, Geometry};
 
-// 12 RECORD BYTES. A recovery takes any 90 bytes.
-pub fn no_record(record_bytes: &[u8], any: bool) -> bool
-    ensures { result ≡ not (cond any (eqb (length record_bytes.now) 90) (is_record record_bytes.now)) }
-{
-    if any {
-        return record_bytes.len() != RECORD_BYTES;
-    }
-    !is_record(record_bytes)
+// Why a call is refused before the table is read.
+#[derive(Clone, Copy, Debug, PartialEq, Eq)]
+pub enum Early {
+    RecordBytes,
+    Geometry,
+    Buffer,
 }
 
-// 2 BUFFER, by the lent lengths
+impl From<Early> for u64 {
+    ghost from_gives = { λ early number. number ≡ number_of_early early };
+
+    fn from(early: Early) -> u64 {
+        match early {
+            Early::RecordBytes => 12,
+            Early::Geometry => 1,
+            Early::Buffer => 2,
+        }
+    }
+}
+
+// 2 BUFFER, by the lent lengths. Not the board's own test: here the table's length is in bytes.
 fn inexact(memory: usize, cache: usize, table: usize, g: Geometry) -> bool
     ensures { result ≡ D.inexact g memory cache table }
 {
@@ -26,48 +37,55 @@ fn inexact(memory: usize, cache: usize, table: usize, g: Geometry) -> bool
     !((memory == 8 * words) & (cache == 64 * slots) & (table == 8 * slots))
 }
 
-fn sizes_number(memory: usize, cache: usize, table: usize, g: Geometry) -> u64
-    ensures { result ≡ D.sizes_number g memory cache table }
+// The sizes, where they are within their bounds and the lent lengths are exact.
+fn fitting(memory: usize, cache: usize, table: usize, g: Geometry) -> Result<Geometry, Early>
+    ensures { Finds (D.sizes_number g memory cache table) g result }
 {
     if outside(g) {
-        return 1;
+        return Err(Early::Geometry);
     }
     if inexact(memory, cache, table, g) {
-        return 2;
+        return Err(Early::Buffer);
     }
-    0
+    Ok(g)
 }
 
-// For the calls that are held to the record's sizes.
-pub fn kept_number(memory: usize, cache: usize, table: usize, record_bytes: &[u8]) -> u64
-    ensures { result ≡ cond (not (is_record record_bytes.now)) 12 (D.sizes_number (supposed record_bytes.now).geometry memory cache table) }
+// The record, for the calls that are held to its sizes.
+pub fn kept_record(
+    memory: usize,
+    cache: usize,
+    table: usize,
+    record_bytes: &[u8],
+) -> Result<Controller, Early>
+    ensures { Finds (cond (not (S.is_record record_bytes.now)) 12 (D.sizes_number (S.supposed record_bytes.now).geometry memory cache table)) (S.supposed record_bytes.now) result }
 {
-    if no_record(record_bytes, false) {
-        return 12;
+    if !is_record(record_bytes) {
+        return Err(Early::RecordBytes);
     }
     let controller = record_in(record_bytes);
-    sizes_number(memory, cache, table, controller.geometry)
+    fitting(memory, cache, table, controller.geometry)?;
+    Ok(controller)
 }
 
-pub fn narrowed(blocks: u64, slots: u64) -> Geometry
-    requires { (blocks ≤ 4096) × (slots ≤ 512) }
-    ensures { result ≡ D.sized blocks slots }
+// The sizes, for the calls that are given them, where the record's bytes are of a form that the call takes. No size is cut to two bytes.
+pub fn given_sizes(
+    formed: bool,
+    memory: usize,
+    cache: usize,
+    table: usize,
+    blocks: u64,
+    slots: u64,
+) -> Result<Geometry, Early>
+    ensures { Finds (cond (not formed) 12 (D.sizes_number (D.sized blocks slots) memory cache table)) (D.sized blocks slots) result }
 {
-    Geometry {
-        blocks: blocks as u16,
-        slots: slots as u16,
+    if !formed {
+        return Err(Early::RecordBytes);
     }
-}
-
-// For the calls that are given sizes. They are compared before they are narrowed.
-pub fn given_number(memory: usize, cache: usize, table: usize, blocks: u64, slots: u64) -> u64
-    ensures { result ≡ D.sizes_number (D.sized blocks slots) memory cache table }
-{
-    if blocks > 4096 {
-        return 1;
-    }
-    if slots > 512 {
-        return 1;
-    }
-    sizes_number(memory, cache, table, narrowed(blocks, slots))
+    let Ok(blocks) = u16::try_from(blocks) else {
+        return Err(Early::Geometry);
+    };
+    let Ok(slots) = u16::try_from(slots) else {
+        return Err(Early::Geometry);
+    };
+    fitting(memory, cache, table, Geometry { blocks, slots })
 }

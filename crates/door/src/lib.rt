@@ -8,10 +8,10 @@ ghost use Rattle.codec.specs.Encoding.{encoded};
 ghost use Rattle.tabled.specs.Tabled as B;
 ghost use Rattle.door.specs.Doors as D;
 ghost use Rattle.door.specs.Answers as T;
+ghost use Rattle.door.specs.Early.{number_of_early};
 
-use checks::numbers::number_of;
-use codec::{put_record, record_in};
-use early::{given_number, kept_number, narrowed, no_record};
+use codec::{RECORD_BYTES, is_record, put_record, record_in};
+use early::{Early, given_sizes, kept_record};
 use rules::{Answer, Registers};
 use tabled::changes;
 
@@ -34,22 +34,37 @@ pub struct RostimelyRecovery {
     pub registers: u64,
 }
 
-fn refusal(number: u64) -> RostimelyAnswer
-    ensures { result ≡ record { number = number; words = 0 } }
-{
-    RostimelyAnswer {
-        number: number,
-        words: 0,
+impl From<Early> for RostimelyAnswer {
+    ghost from_gives = { λ early told. told ≡ record { number = number_of_early early; words = 0 } };
+
+    fn from(early: Early) -> RostimelyAnswer {
+        RostimelyAnswer {
+            number: u64::from(early),
+            words: 0,
+        }
     }
 }
 
-fn refused_recovery(number: u64) -> RostimelyRecovery
-    ensures { result ≡ record { number = number; words = 0; registers = 0 } }
-{
-    RostimelyRecovery {
-        number: number,
-        words: 0,
-        registers: 0,
+impl From<Early> for RostimelyRecovery {
+    ghost from_gives = { λ early told. told ≡ record { number = number_of_early early; words = 0; registers = 0 } };
+
+    fn from(early: Early) -> RostimelyRecovery {
+        RostimelyRecovery {
+            number: u64::from(early),
+            words: 0,
+            registers: 0,
+        }
+    }
+}
+
+impl From<Answer> for RostimelyAnswer {
+    ghost from_gives = { λ answer told. told ≡ record { number = number_of answer.number; words = answer.words } };
+
+    fn from(answer: Answer) -> RostimelyAnswer {
+        RostimelyAnswer {
+            number: u64::from(answer.number),
+            words: answer.words as u64,
+        }
     }
 }
 
@@ -58,16 +73,10 @@ fn leave(record_bytes: &mut [u8], answer: Answer) -> RostimelyAnswer
     requires { length record_bytes.old ≡ 90 }
     ensures { (result ≡ record { number = number_of answer.number; words = answer.words }) × (record_bytes.new ≡ cond (B.changes answer.number) (encoded answer.controller) record_bytes.old) }
 {
-    let number = answer.number;
-    let controller = answer.controller;
-    let told = RostimelyAnswer {
-        number: number_of(number),
-        words: answer.words as u64,
-    };
-    if changes(number) {
-        put_record(record_bytes, controller);
+    if changes(answer.number) {
+        put_record(record_bytes, answer.controller);
     }
-    told
+    RostimelyAnswer::from(answer)
 }
 
 // Copies a range of the visible block; refused, it leaves `into` as it was.
@@ -83,21 +92,24 @@ pub extern "C" fn rostimely_load(
 ) -> RostimelyAnswer
     ensures { T.Loads (D.door 0 (D.lent_of memory.now cache.now table.now record_bytes.now) (C.load block offset (length into.old))) into.old into.new result }
 {
-    let early = kept_number(memory.len(), cache.len(), table.len(), record_bytes);
-    if early != 0 {
-        return refusal(early);
+    match kept_record(memory.len(), cache.len(), table.len(), record_bytes) {
+        Ok(controller) => {
+            let number = rooms::load(
+                memory,
+                cache,
+                table,
+                controller,
+                block as usize,
+                offset as usize,
+                into,
+            );
+            RostimelyAnswer {
+                number: u64::from(number),
+                words: 0,
+            }
+        }
+        Err(early) => RostimelyAnswer::from(early),
     }
-    let controller = record_in(record_bytes);
-    let number = rooms::load(
-        memory,
-        cache,
-        table,
-        controller,
-        block as usize,
-        offset as usize,
-        into,
-    );
-    refusal(number_of(number))
 }
 
 #[unsafe(no_mangle)]
@@ -113,22 +125,22 @@ pub extern "C" fn rostimely_store(
 ) -> RostimelyAnswer
     ensures { D.door p (D.lent_of memory.old cache.old table.old record_bytes.old) (C.store block offset bytes.now) ≡ T.left_of result memory.new cache.new table.new record_bytes.new }
 {
-    let early = kept_number(memory.len(), cache.len(), table.len(), record_bytes);
-    if early != 0 {
-        return refusal(early);
+    match kept_record(memory.len(), cache.len(), table.len(), record_bytes) {
+        Ok(controller) => {
+            let answer = rooms::store(
+                memory,
+                cache,
+                table,
+                controller,
+                block as usize,
+                offset as usize,
+                bytes,
+                p as usize,
+            );
+            leave(record_bytes, answer)
+        }
+        Err(early) => RostimelyAnswer::from(early),
     }
-    let controller = record_in(record_bytes);
-    let answer = rooms::store(
-        memory,
-        cache,
-        table,
-        controller,
-        block as usize,
-        offset as usize,
-        bytes,
-        p as usize,
-    );
-    leave(record_bytes, answer)
 }
 
 #[unsafe(no_mangle)]
@@ -142,13 +154,13 @@ pub extern "C" fn rostimely_begin(
 ) -> RostimelyAnswer
     ensures { D.door p (D.lent_of memory.old cache.now table.old record_bytes.old) (C.begin registers.now) ≡ T.left_of result memory.new cache.now table.new record_bytes.new }
 {
-    let early = kept_number(memory.len(), cache.len(), table.len(), record_bytes);
-    if early != 0 {
-        return refusal(early);
+    match kept_record(memory.len(), cache.len(), table.len(), record_bytes) {
+        Ok(controller) => {
+            let answer = rooms::begin(memory, cache, table, controller, registers, p as usize);
+            leave(record_bytes, answer)
+        }
+        Err(early) => RostimelyAnswer::from(early),
     }
-    let controller = record_in(record_bytes);
-    let answer = rooms::begin(memory, cache, table, controller, registers, p as usize);
-    leave(record_bytes, answer)
 }
 
 #[unsafe(no_mangle)]
@@ -162,13 +174,13 @@ pub extern "C" fn rostimely_step(
 ) -> RostimelyAnswer
     ensures { D.door p (D.lent_of memory.old cache.now table.now record_bytes.old) (C.step most) ≡ T.left_of result memory.new cache.now table.now record_bytes.new }
 {
-    let early = kept_number(memory.len(), cache.len(), table.len(), record_bytes);
-    if early != 0 {
-        return refusal(early);
+    match kept_record(memory.len(), cache.len(), table.len(), record_bytes) {
+        Ok(controller) => {
+            let answer = rooms::step(memory, cache, table, controller, most as usize, p as usize);
+            leave(record_bytes, answer)
+        }
+        Err(early) => RostimelyAnswer::from(early),
     }
-    let controller = record_in(record_bytes);
-    let answer = rooms::step(memory, cache, table, controller, most as usize, p as usize);
-    leave(record_bytes, answer)
 }
 
 // The record's bytes are checked in full: a cut format keeps the rest of the record.
@@ -185,19 +197,25 @@ pub extern "C" fn rostimely_format(
 ) -> RostimelyAnswer
     ensures { D.door p (D.lent_of memory.old cache.now table.old record_bytes.old) (C.format (D.sized blocks slots) fill) ≡ T.left_of result memory.new cache.now table.new record_bytes.new }
 {
-    if no_record(record_bytes, false) {
-        return refusal(12);
+    let formed = is_record(record_bytes);
+    match given_sizes(
+        formed,
+        memory.len(),
+        cache.len(),
+        table.len(),
+        blocks,
+        slots,
+    ) {
+        Ok(g) => {
+            let controller = record_in(record_bytes);
+            let answer = rooms::format(memory, cache, table, controller, g, fill, p as usize);
+            leave(record_bytes, answer)
+        }
+        Err(early) => RostimelyAnswer::from(early),
     }
-    let early = given_number(memory.len(), cache.len(), table.len(), blocks, slots);
-    if early != 0 {
-        return refusal(early);
-    }
-    let controller = record_in(record_bytes);
-    let g = narrowed(blocks, slots);
-    let answer = rooms::format(memory, cache, table, controller, g, fill, p as usize);
-    leave(record_bytes, answer)
 }
 
+// C has no Registers, and a From<Registers> for u64 isn't this crate's to write.
 fn registers_flag(registers: Registers) -> u64
     ensures { result ≡ T.flag_of registers }
 {
@@ -219,22 +237,25 @@ pub extern "C" fn rostimely_recover(
 ) -> RostimelyRecovery
     ensures { (p : ℕ) → T.Recovers (D.door p (D.lent_of memory.now cache.now table.old record_bytes.old) (C.recover (D.sized blocks slots))) memory.now cache.now table.new record_bytes.new result }
 {
-    if no_record(record_bytes, true) {
-        return refused_recovery(12);
-    }
-    let early = given_number(memory.len(), cache.len(), table.len(), blocks, slots);
-    if early != 0 {
-        return refused_recovery(early);
-    }
-    let controller = record_in(record_bytes);
-    let g = narrowed(blocks, slots);
-    let recovery = rooms::recover(memory, cache, table, controller, g);
-    let registers = recovery.registers;
-    let answer = recovery.answer;
-    let told = leave(record_bytes, answer);
-    RostimelyRecovery {
-        number: told.number,
-        words: told.words,
-        registers: registers_flag(registers),
+    let ninety = record_bytes.len() == RECORD_BYTES;
+    match given_sizes(
+        ninety,
+        memory.len(),
+        cache.len(),
+        table.len(),
+        blocks,
+        slots,
+    ) {
+        Ok(g) => {
+            let controller = record_in(record_bytes);
+            let recovery = rooms::recover(memory, cache, table, controller, g);
+            let RostimelyAnswer { number, words } = leave(record_bytes, recovery.answer);
+            RostimelyRecovery {
+                number,
+                words,
+                registers: registers_flag(recovery.registers),
+            }
+        }
+        Err(early) => RostimelyRecovery::from(early),
     }
 }

@@ -1,14 +1,14 @@
 // A loss of supply inside a field's call, on a copy of the board: what comes back, against what has to come back (document 01, Power).
-use crate::images::{copy_bytes, copy_table, reads_as};
+use crate::images::{Checkpoint, reads_as};
 use asking::{Asked, store_bytes};
 use checks::answers::refused;
-use checks::numbers::{accepted, is_running, number_of};
-use lending::{begin_lent, format_lent, recover_lent, step_lent, store_lent};
+use checks::numbers::accepted;
+use lending::Arrays;
 use rules::{Answer, Backup, Controller, Geometry, Number, Phase, Recovery, Registers};
-use trace::Allowance;
+use std::fmt;
 
 // What comes back after a stop.
-#[derive(Clone, Copy)]
+#[derive(Clone, Copy, PartialEq, Eq)]
 pub enum Came {
     Kept,
     Draft,
@@ -18,266 +18,163 @@ pub enum Came {
     Wrong,
 }
 
-// The registers that a recovery has to give, or their absence; the record's bytes are 0 then.
-#[derive(Clone, Copy)]
-pub struct Wanted {
-    pub exist: Registers,
-    pub bytes: [u8; 64],
+impl fmt::Display for Came {
+    fn fmt<W: fmt::Write>(&self, f: &mut fmt::Formatter<W>) -> fmt::Result {
+        f.write_str(match self {
+            Came::Kept => "kept",
+            Came::Draft => "draft",
+            Came::Old => "old",
+            Came::New => "new",
+            Came::Nothing => "none",
+            Came::Wrong => "WRONG",
+        })
+    }
 }
 
-// The last finished checkpoint beside its blocks; `there` is false where no checkpoint is finished.
-#[derive(Clone, Copy)]
-pub struct Saved {
-    pub sizes: Geometry,
-    pub registers: Wanted,
-    pub there: bool,
-}
-
-// What the program holds beside its arrays: the bench's record and allowance, the last finished checkpoint, the registers of the one on its way, and the counts.
+// What the program holds: the bench, the sizes of the board in its memory with the last finished checkpoint, the checkpoint on its way, and the counts.
 #[derive(Clone, Copy)]
 pub struct Panel {
+    pub arrays: Arrays,
     pub controller: Controller,
-    pub allowance: Allowance,
-    pub saved: Saved,
-    pub draft: Wanted,
+    pub allowance: Option<u16>,
+    pub sizes: Geometry,
+    pub saved: Option<Checkpoint>,
+    pub draft: Checkpoint,
     pub tried: u64,
     pub wrong: u64,
 }
 
-// A field's call when nothing stops it: the length of its list, and whether it leaves the board Running.
+// A field's call when nothing stops it.
 #[derive(Clone, Copy)]
 pub struct Plan {
     pub asked: Asked,
-    pub accepted: bool,
-    pub words: usize,
-    pub running: bool,
+    pub answer: Answer,
 }
 
-// An answer of another call says nothing of registers.
-fn without(answer: Answer) -> Recovery {
-    Recovery {
-        answer: answer,
-        registers: Registers::Absent,
+impl Plan {
+    pub fn of(panel: &Panel, asked: Asked, value: &[u8]) -> Plan {
+        let mut copy = panel.arrays;
+        let done = act(&mut copy, panel.controller, asked, value, usize::MAX);
+        Plan {
+            asked,
+            answer: done.answer,
+        }
+    }
+
+    pub fn is_accepted(self) -> bool {
+        accepted(self.answer.number)
+    }
+
+    // A list of n words has n + 1 places to stop; a refused field has no list.
+    pub fn stops(self) -> usize {
+        if self.is_accepted() && stores_words(self.asked) {
+            self.answer.words.wrapping_add(1)
+        } else {
+            0
+        }
+    }
+
+    // What has to come back: a checkpoint on its way is finished by the last word of its list, the mark. A format's first
+    // word takes the old mark away, its last one sets the new.
+    fn expected(self, p: usize, is_saved: bool) -> Came {
+        let whole = p == self.answer.words;
+        match self.asked {
+            Asked::Format(..) if whole => Came::New,
+            Asked::Format(..) if p == 0 && is_saved => Came::Old,
+            Asked::Format(..) => Came::Nothing,
+            Asked::Step(_) if whole && self.answer.controller.phase == Phase::Running => {
+                Came::Draft
+            }
+            _ => Came::Kept,
+        }
+    }
+
+    // The sizes of the board whose checkpoint is in the memory: a format's own as soon as it has stored a word.
+    fn sizes_at(self, p: usize, sizes: Geometry) -> Geometry {
+        match self.asked {
+            Asked::Format(g, _) if p != 0 => g,
+            _ => sizes,
+        }
     }
 }
 
-// The field's call with an allowance. A load or an allowance changes nothing on the board.
+pub fn stores_words(asked: Asked) -> bool {
+    match asked {
+        Asked::Format(..) | Asked::Store(..) | Asked::Begin(_) | Asked::Step(_) => true,
+        _ => false,
+    }
+}
+
+// The field's call with an allowance. A load or an allowance changes nothing on the board, and no call but a recovery
+// says anything of registers.
 pub fn act(
-    memory: &mut [u8; 5512],
-    cache: &mut [u8; 1024],
-    table: &mut [u64; 16],
+    arrays: &mut Arrays,
     controller: Controller,
     asked: Asked,
     value: &[u8],
     p: usize,
 ) -> Recovery {
-    match asked {
-        Asked::Format(g, fill) => {
-            without(format_lent(memory, cache, table, controller, g, fill, p))
-        }
-        Asked::Store(block, offset) => without(store_lent(
-            memory,
-            cache,
-            table,
+    let answer = match asked {
+        Asked::Recover => return arrays.recover(controller),
+        Asked::Format(g, fill) => arrays.format(controller, g, fill, p),
+        Asked::Store(block, offset) => arrays.store(
             controller,
             block as usize,
             offset as usize,
             store_bytes(value),
             p,
-        )),
-        Asked::Begin(byte) => {
-            without(begin_lent(memory, cache, table, controller, &[byte; 64], p))
-        }
-        Asked::Step(most) => {
-            without(step_lent(memory, cache, table, controller, most as usize, p))
-        }
-        Asked::Recover => recover_lent(memory, cache, table, controller),
-        Asked::Load(_, _, _) => without(refused(Number::Done, controller)),
-        Asked::Allow(_) => without(refused(Number::Done, controller)),
-        Asked::Bad => without(refused(Number::Done, controller)),
-    }
-}
-
-// The call on a copy of the board; of the copy only the memory is left to the caller.
-fn act_on_copy(
-    memory: &[u8; 5512],
-    cache: &[u8; 1024],
-    table: &[u64; 16],
-    controller: Controller,
-    asked: Asked,
-    value: &[u8],
-    p: usize,
-    copy: &mut [u8; 5512],
-) -> Answer {
-    let mut cached = [0u8; 1024];
-    let mut entries = [0u64; 16];
-    copy_bytes(memory, copy);
-    copy_bytes(cache, &mut cached);
-    copy_table(table, &mut entries);
-    let done = act(copy, &mut cached, &mut entries, controller, asked, value, p);
-    done.answer
-}
-
-pub fn plan_of(
-    memory: &[u8; 5512],
-    cache: &[u8; 1024],
-    table: &[u64; 16],
-    controller: Controller,
-    asked: Asked,
-    value: &[u8],
-) -> Plan {
-    let mut copy = [0u8; 5512];
-    let answer = act_on_copy(
-        memory,
-        cache,
-        table,
-        controller,
-        asked,
-        value,
-        usize::MAX,
-        &mut copy,
-    );
-    let number = answer.number;
-    let after = answer.controller;
-    let phase = after.phase;
-    Plan {
-        asked: asked,
-        accepted: accepted(number),
-        words: answer.words,
-        running: is_running(phase),
-    }
-}
-
-// What has to come back: a checkpoint on its way is finished by the last word of its list, the mark.
-fn expected_of(plan: Plan, p: usize, there: bool) -> Came {
-    let asked = plan.asked;
-    let whole = p == plan.words;
-    match asked {
-        Asked::Format(_, _) => expected_of_format(whole, p, there),
-        Asked::Step(_) => {
-            if whole & plan.running {
-                Came::Draft
-            } else {
-                Came::Kept
-            }
-        }
-        _ => Came::Kept,
-    }
-}
-
-// A format's first word takes the old mark away, its last one sets the new.
-fn expected_of_format(whole: bool, p: usize, there: bool) -> Came {
-    if whole {
-        return Came::New;
-    }
-    if there & (p == 0) {
-        return Came::Old;
-    }
-    Came::Nothing
-}
-
-// The sizes of the board whose checkpoint is in the memory: a format's own as soon as it has stored a word.
-fn sizes_at(plan: Plan, p: usize, sizes: Geometry) -> Geometry {
-    let asked = plan.asked;
-    if p == 0 {
-        return sizes;
-    }
-    match asked {
-        Asked::Format(g, _) => g,
-        _ => sizes,
+        ),
+        Asked::Begin(byte) => arrays.begin(controller, &[byte; 64], p),
+        Asked::Step(most) => arrays.step(controller, most as usize, p),
+        Asked::Load(..) | Asked::Allow(_) | Asked::Bad => refused(Number::Done, controller),
+    };
+    Recovery {
+        answer,
+        registers: Registers::Absent,
     }
 }
 
 // The record after a loss of supply: only the sizes are given anew, the rest is garbage.
-fn lost_record(g: Geometry) -> Controller {
+fn lost_record(geometry: Geometry) -> Controller {
     Controller {
-        geometry: g,
+        geometry,
         registers: [165u8; 64],
         finished: Backup::B,
         phase: Phase::Writing(60000),
     }
 }
 
-fn recover(
-    memory: &[u8; 5512],
-    cache: &[u8; 1024],
-    table: &mut [u64; 16],
-    controller: Controller,
-) -> Recovery {
-    recover_lent(memory, cache, table, controller)
-}
-
 // No checkpoint: NO CHECKPOINT, or GEOMETRY where no board was ever formatted.
 fn refuses(answer: Answer) -> bool {
-    let number = answer.number;
-    let controller = answer.controller;
-    let g = controller.geometry;
-    if g.blocks == 0 {
-        return number_of(number) == 1;
+    if answer.controller.geometry.blocks == 0 {
+        return answer.number == Number::Geometry;
     }
-    number_of(number) == 10
+    answer.number == Number::NoCheckpoint
 }
 
 // Whether a recovered board is the expected one.
-fn is_expected(
-    memory: &[u8; 5512],
-    cache: &[u8; 1024],
-    table: &[u64; 16],
-    recovery: Recovery,
-    expected: Came,
-    kept: &[u8; 4096],
-    draft: &[u8; 4096],
-    panel: Panel,
-) -> bool {
-    let answer = recovery.answer;
-    let number = answer.number;
-    let saved = panel.saved;
-    let registers = saved.registers;
-    let on_its_way = panel.draft;
-    let opened = accepted(number);
+fn is_expected(arrays: &Arrays, recovery: Recovery, expected: Came, panel: &Panel) -> bool {
+    let opened = accepted(recovery.answer.number);
     match expected {
-        Came::Kept => opened & reads_as(memory, cache, table, recovery, kept, registers),
-        Came::Old => opened & reads_as(memory, cache, table, recovery, kept, registers),
-        Came::Draft => opened & reads_as(memory, cache, table, recovery, draft, on_its_way),
-        Came::New => opened & reads_as(memory, cache, table, recovery, draft, on_its_way),
-        Came::Nothing => refuses(answer),
+        Came::Kept | Came::Old => match &panel.saved {
+            Some(saved) => opened && reads_as(arrays, recovery, saved),
+            None => false,
+        },
+        Came::Draft | Came::New => opened && reads_as(arrays, recovery, &panel.draft),
+        Came::Nothing => refuses(recovery.answer),
         Came::Wrong => false,
     }
 }
 
 // The supply stops after p words of the list, everything volatile is lost, and the board recovers.
-pub fn came_back(
-    memory: &[u8; 5512],
-    cache: &[u8; 1024],
-    table: &[u64; 16],
-    kept: &[u8; 4096],
-    draft: &[u8; 4096],
-    panel: Panel,
-    plan: Plan,
-    value: &[u8],
-    p: usize,
-) -> Came {
-    let saved = panel.saved;
-    let controller = panel.controller;
-    let asked = plan.asked;
-    let expected = expected_of(plan, p, saved.there);
-    let sizes = saved.sizes;
-    let g = sizes_at(plan, p, sizes);
-    let mut copy = [0u8; 5512];
-    act_on_copy(memory, cache, table, controller, asked, value, p, &mut copy);
-    let lost_cache = [165u8; 1024];
-    let mut lost_table = [65025u64; 16];
-    let recovery = recover(&copy, &lost_cache, &mut lost_table, lost_record(g));
-    if is_expected(
-        &copy,
-        &lost_cache,
-        &lost_table,
-        recovery,
-        expected,
-        kept,
-        draft,
-        panel,
-    ) {
+pub fn came_back(panel: &Panel, plan: Plan, value: &[u8], p: usize) -> Came {
+    let mut copy = panel.arrays;
+    act(&mut copy, panel.controller, plan.asked, value, p);
+    copy.cache = [165u8; 1024];
+    copy.table = [65025u64; 16];
+    let recovery = copy.recover(lost_record(plan.sizes_at(p, panel.sizes)));
+    let expected = plan.expected(p, panel.saved.is_some());
+    if is_expected(&copy, recovery, expected, panel) {
         return expected;
     }
     Came::Wrong

@@ -33,8 +33,3 @@ number_of_bytes (suc n) x h =
 -- the two bytes at a place
 pub two_at : (bytes : List ℕ) (start : ℕ) → start + 2 ≤ length bytes → take 2 (drop start bytes) ≡ get_or bytes start 0 ∷ (get_or bytes (start + 1) 0 ∷ [])
 two_at bytes start h = rw (add-one, drop-cons bytes start 0 (omega arith), drop-cons bytes (suc start) 0 (omega arith))
-
--- the two bytes of a number
-pub two_bytes : (number : ℕ) → number < 65536 → (number / 256) ∷ ((number % 256) ∷ []) ≡ big_endian 2 number
-unfolding big_endian
-two_bytes number h = let e : number / 256 ≡ number / 256 % 256 = omega arith in ap (λ (high : ℕ). high ∷ ((number % 256) ∷ [])) e

@@ -1,9 +1,9 @@
 -- The checks of the new form's calls, link by link, and what is known once they are passed.
-use mathlib.Core.Path.{◌≡◌, refl, sym, ap, ◌∙◌}
+use mathlib.Core.Path.{◌≡◌, refl, sym, ap, ◌∙◌, subst}
 use mathlib.Core.Logic.{◌≢◌}
 use mathlib.Core.Bool.{Bool, true, false, not, ◌&&◌}
 use mathlib.Core.List.{List, [], ◌∷◌, ◌++◌}
-use mathlib.Core.Option.{none, some}
+use Rattle.std.specs.Prelude.{None, Some, Result}
 use Prim.Native.Nat.{ℕ, ◌+◌, ◌*◌, ◌-◌, ◌<◌}
 use native.Mathlib.Omega.{arith}
 use native.Mathlib.Nat.{suc-ne-zero}
@@ -25,7 +25,8 @@ use Rattle.rules.specs.Numbers.{number_of, Check, ◌⇒◌, first_of, outside, 
 use Rattle.rules.specs.Starts.{finished_in, format_number, table_in, sound, no_checkpoint, unsound, recovery_checks, recover_number}
 use Rattle.rules.proofs.Checked.{Lent, sizes_passed}
 use Rattle.checks.specs.Ready.{Ready}
-use Rattle.checks.proofs.Passed.{stopped, Refuses, refuses, go_on, front_passed, sizes_ready}
+use Rattle.checks.specs.Results.{Judged}
+use Rattle.checks.proofs.Passed.{front_refuses, rest_decides, Refuses, refuses, go_on, front_passed, sizes_ready}
 use Rattle.forms.specs.declared.Header.{Header}
 use Rattle.forms.specs.declared.Header.TheVariants.{Missing, Fits, Other}
 use Rattle.forms.specs.Stored.{long_words, header_of, without, old_board}
@@ -135,20 +136,19 @@ headed_uncut needed board g z =
 
 -- ---- a call that finds its number part by part
 
-module _ (needed : Bool) (board : Board) (g : Geometry) {n : Number} where
-  pub named_stops : n ≡ first_of (sizes_checks board g) → number_of n ≢ 0 → n ≡ first_of (named_checks needed board g)
-  named_stops e ne = stopped (sizes_checks board g) (header_checks needed (header_of g board.memory)) e ne
+module _ (needed : Bool) (board : Board) (g : Geometry) where
+  pub named_stops : {n : Number} → (n ≡ first_of (sizes_checks board g)) × (number_of n ≢ 0) → (n ≡ first_of (named_checks needed board g)) × (number_of n ≢ 0)
+  named_stops h = front_refuses (sizes_checks board g) (header_checks needed (header_of g board.memory)) h
 
-  pub named_goes : {r : Number} → n ≡ first_of (sizes_checks board g) → number_of n ≡ 0 → r ≡ first_of (header_checks needed (header_of g board.memory))
-      → r ≡ first_of (named_checks needed board g)
-  named_goes e z q = q ∙ sym (go_on (header_checks needed (header_of g board.memory)) (sizes_refuse board g) (ap number_of (sym e) ∙ z))
+  pub named_goes : (r : Result (Unit {0}) Number) → number_of (first_of (sizes_checks board g)) ≡ 0 → Judged (first_of (header_checks needed (header_of g board.memory))) r
+      → Judged (first_of (named_checks needed board g)) r
+  named_goes r z j = rest_decides (header_checks needed (header_of g board.memory)) r (sizes_refuse board g) z j
 
-  pub headed_stops : n ≡ first_of (named_checks needed board g) → number_of n ≢ 0 → n ≡ headed_number needed board g
-  headed_stops e ne = stopped (named_checks needed board g) (last_checks board g) e ne ∙ sym (headed_is needed board g)
+  pub headed_stops : {n : Number} → (n ≡ first_of (named_checks needed board g)) × (number_of n ≢ 0) → (n ≡ headed_number needed board g) × (number_of n ≢ 0)
+  headed_stops h = rw (headed_is needed board g) (front_refuses (named_checks needed board g) (last_checks board g) h)
 
-  pub headed_goes : {r : Number} → n ≡ first_of (named_checks needed board g) → number_of n ≡ 0 → r ≡ first_of (last_checks board g) → r ≡ headed_number needed board g
-  headed_goes e z q =
-      q ∙ sym (headed_is needed board g ∙ go_on (last_checks board g) (named_refuse needed board g) (ap number_of (sym e) ∙ z))
+  pub headed_goes : (r : Result (Unit {0}) Number) → number_of (first_of (named_checks needed board g)) ≡ 0 → Judged (first_of (last_checks board g)) r → Judged (headed_number needed board g) r
+  headed_goes r z j = rw (headed_is needed board g) (rest_decides (last_checks board g) r (named_refuse needed board g) z j)
 
 -- ---- whether a memory of the old form recovers
 
@@ -156,15 +156,15 @@ module _ (g : Geometry) (memory : List ℕ) (side : Volatile) where
   abbrev checks : List Check
   checks = recovery_checks (record { memory = memory; volatile = side }) g (finished_in g memory)
 
-  pub no_checkpoint_lem : finished_in g memory ≡ none → No.NoCheckpoint ≡ first_of checks
+  pub no_checkpoint_lem : finished_in g memory ≡ None → No.NoCheckpoint ≡ first_of checks
   unfolding first_of no_checkpoint
   no_checkpoint_lem f = rw f
 
-  pub not_sound : (backup : Backup) → finished_in g memory ≡ some backup → sound g (table_in g memory backup) ≡ false → No.Backup ≡ first_of checks
+  pub not_sound : (backup : Backup) → finished_in g memory ≡ Some backup → sound g (table_in g memory backup) ≡ false → No.Backup ≡ first_of checks
   unfolding first_of no_checkpoint unsound
   not_sound backup f s = rw (f, s)
 
-  pub all_sound : (backup : Backup) → finished_in g memory ≡ some backup → sound g (table_in g memory backup) ≡ true → No.Done ≡ first_of checks
+  pub all_sound : (backup : Backup) → finished_in g memory ≡ Some backup → sound g (table_in g memory backup) ≡ true → No.Done ≡ first_of checks
   unfolding first_of no_checkpoint unsound
   all_sound backup f s = rw (f, s)
 
@@ -189,25 +189,25 @@ pub without_is : (g : Geometry) (memory : List ℕ) → length memory ≡ 8 * lo
 unfolding without
 without_is g memory e = ap (λ (n : ℕ). take n memory) (let z : length memory - 16 ≡ 8 * memory_words g = omega (arith, e) in z)
 
--- a call that found the number of the first four
-pub named_passed : (needed : Bool) (memory cache table : List ℕ) (g : Geometry) {n : Number}
-    → ((k : Controller) → n ≡ first_of (named_checks needed (board_of memory cache table k) g)) → number_of n ≡ 0 → Fitted g memory cache table
-named_passed needed memory cache table g e z =
+-- a call that passed the first four
+pub named_passed : (needed : Bool) (memory cache table : List ℕ) (g : Geometry)
+    → ((k : Controller) → number_of (first_of (named_checks needed (board_of memory cache table k) g)) ≡ 0) → Fitted g memory cache table
+named_passed needed memory cache table g z =
     let k = any_record g in
-    let board = board_of memory cache table k in
-    fitted memory cache table k g (front_passed (header_checks needed (header_of g memory)) (sizes_refuse board g) (ap number_of (sym (e k)) ∙ z)).0
+    fitted memory cache table k g (front_passed (header_checks needed (header_of g memory)) (sizes_refuse (board_of memory cache table k) g) (z k)).0
 
 pub front_length : (memory : List ℕ) (g : Geometry) {words : ℕ} → length memory ≡ 8 * long_words g → words ≡ memory_words g → length (take (8 * words) memory) ≡ 8 * memory_words g
 front_length memory g {words} e w = length-take-le (8 * words) memory (omega (arith, e, w)) ∙ ap (λ (n : ℕ). 8 * n) w
 
 -- the last two, read from the first bytes of the memory
-pub last_at : (board : Board) (g : Geometry) {words : ℕ} {r : Number} → length board.memory ≡ 8 * long_words g → words ≡ memory_words g
-    → ((side : Volatile) → r ≡ first_of (recovery_checks (record { memory = take (8 * words) board.memory; volatile = side }) g (finished_in g (take (8 * words) board.memory))))
-    → r ≡ first_of (last_checks board g)
-last_at board g {words} e w q =
-    q board.volatile
-    ∙ ap (λ (old : List ℕ). first_of (recovery_checks (record { memory = old; volatile = board.volatile }) g (finished_in g old)))
-    (ap (λ (n : ℕ). take (8 * n) board.memory) w ∙ sym (without_is g board.memory e))
+pub last_at : (board : Board) (g : Geometry) {words : ℕ} (r : Result (Unit {0}) Number) → length board.memory ≡ 8 * long_words g → words ≡ memory_words g
+    → ((side : Volatile) → Judged (first_of (recovery_checks (record { memory = take (8 * words) board.memory; volatile = side }) g (finished_in g (take (8 * words) board.memory)))) r)
+    → Judged (first_of (last_checks board g)) r
+last_at board g r e w q =
+    subst (λ (n : Number). Judged n r)
+    (ap (λ (old : List ℕ). first_of (recovery_checks (record { memory = old; volatile = board.volatile }) g (finished_in g old)))
+    (ap (λ (n : ℕ). take (8 * n) board.memory) w ∙ sym (without_is g board.memory e)))
+    (q board.volatile)
 
 -- of a whole chain
 pub record Headed (needed : Bool) (board : Board) (g : Geometry) : Type 0 where
@@ -241,9 +241,9 @@ headed needed board g e =
       recovers = old;
     }
 
-pub headed_size : (needed : Bool) (memory cache table : List ℕ) (k : Controller) (g : Geometry) {n : Number} → n ≡ headed_number needed (board_of memory cache table k) g
-    → number_of n ≡ 0 → length memory ≡ 8 * long_words g
-headed_size needed memory cache table k g e z = (headed needed (board_of memory cache table k) g (ap number_of (sym e) ∙ z)).size
+pub headed_size : (needed : Bool) (memory cache table : List ℕ) (k : Controller) (g : Geometry) → number_of (headed_number needed (board_of memory cache table k) g) ≡ 0
+    → length memory ≡ 8 * long_words g
+headed_size needed memory cache table k g z = (headed needed (board_of memory cache table k) g z).size
 
 -- ---- and the other way: behind a header that passes, the number is that of the old form's recovery
 

@@ -2,7 +2,7 @@
 use mathlib.Core.Path.{◌≡◌, refl, sym, ap, subst}
 use mathlib.Core.Bool.{Bool, true, false}
 use mathlib.Core.List.{List, [], ◌∷◌, ◌++◌}
-use mathlib.Core.Option.{Option, none, some}
+use Rattle.std.specs.Prelude.{Option, None, Some}
 use Prim.Native.Nat.{ℕ, zero, suc, ◌≤◌}
 use native.Mathlib.Omega.{arith}
 use lib.Dec.{eqb}
@@ -71,8 +71,8 @@ recover_holds p g run h = go (eqb (number_of (headed_number true run.board g)) 0
     go false e = subst Holds (sym (recover_stays p g run (eqb-false (number_of (headed_number true run.board g)) 0 e))) h
 
 off_stands : (board : Board) (promise : Option Plain) → Stands board promise → Stands (off_board board) promise
-off_stands board none unpromised = unpromised
-off_stands board (some plain) (standing_by i) = standing_by (off_inv board plain i)
+off_stands board None unpromised = unpromised
+off_stands board (Some plain) (standing_by i) = standing_by (off_inv board plain i)
 
 move_holds : (p : ℕ) (g : Geometry) (c : Call) (m : IsMove g c) (run : Run) → Holds run → Holds (record { board = (call p run.board c).board; promise = run.promise })
 move_holds p g c m run h = go (call p run.board c) (move_ends p run.board g c m)
@@ -119,7 +119,7 @@ format_holds p g fill run h = go (call p run.board (format g fill)) (format_ends
         let w = new_begins g fill p run.board (ap (λ (x : Outcome). number_of x.number) q) in
         record {
           two = format_two p run.board g fill h.two z;
-          stands = subst (λ (x : Outcome). Stands (old_board x.board) (some (formatted fill))) q (standing_by w.good.inv);
+          stands = subst (λ (x : Outcome). Stands (old_board x.board) (Some (formatted fill))) q (standing_by w.good.inv);
         }
     go o (stopped z e) q = record { two = format_two p run.board g fill h.two z; stands = unpromised }
 
@@ -180,13 +180,13 @@ unfolding Demand2
 demand_2 board events plain two e = go end.promise (runs_hold events start (record { two = two; stands = unpromised })).stands e
   where
     start : Run
-    start = record { board = board; promise = none }
+    start = record { board = board; promise = None }
 
     end : Run
     end = runs events start
 
-    go : (promise : Option Plain) → Stands (old_board end.board) promise → promise ≡ some plain → Shows (old_board end.board) plain
-    go none unpromised q = absurd (none_some plain q)
-    go (some found) (standing_by i) q =
+    go : (promise : Option Plain) → Stands (old_board end.board) promise → promise ≡ Some plain → Shows (old_board end.board) plain
+    go None unpromised q = absurd (none_some plain q)
+    go (Some found) (standing_by i) q =
         let same : found ≡ plain = cc in
         subst (Shows (old_board end.board)) same (inv_shows (old_board end.board) found i)

@@ -3,7 +3,7 @@ use mathlib.Core.Path.{◌≡◌, refl, sym, ap, ◌∙◌, subst}
 use mathlib.Core.Logic.{◌≢◌}
 use mathlib.Core.Bool.{Bool, true, false}
 use mathlib.Core.List.{List, [], ◌++◌}
-use mathlib.Core.Option.{Option, none, some}
+use Rattle.std.specs.Prelude.{Option, None, Some}
 use Prim.Native.Nat.{ℕ, ◌-◌, ◌≤◌, ◌<◌}
 use native.Mathlib.Omega.{arith}
 use lib.Dec.{eqb, leb}
@@ -74,9 +74,9 @@ stop_follows volatile run h =
 refused_promise : (g h : Geometry) (promise : Option Plain) (outcome : Outcome) → number_of outcome.number ≢ 0
     → OldRuns.promised g promise (Old.recover h) outcome [] ≡ promise
 unfolding OldRuns.promised OldRuns.from_none OldRuns.from_some
-refused_promise g h none outcome ne = rw (ne_eqb (number_of outcome.number) 0 ne)
-refused_promise g h (some plain) outcome ne =
-    ap (λ (z : Plain). some z) (note_unmarked g plain (Old.recover h) (number_of outcome.number) [] (no_mark g done) ∙ did_not plain (Old.recover h) (number_of outcome.number) ne)
+refused_promise g h None outcome ne = rw (ne_eqb (number_of outcome.number) 0 ne)
+refused_promise g h (Some plain) outcome ne =
+    ap (λ (z : Plain). Some z) (note_unmarked g plain (Old.recover h) (number_of outcome.number) [] (no_mark g done) ∙ did_not plain (Old.recover h) (number_of outcome.number) ne)
 
 -- a plan behind checks that it doesn't pass
 abbrev pub refusal : Board → Number → Outcome

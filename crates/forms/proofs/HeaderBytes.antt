@@ -54,6 +54,12 @@ unfolding header_bytes fields_of field big_endian
 header_length g = refl
 
 -- the 16 bytes, each by itself
+pub header_laid : (g : Geometry)
+    → 1 ∷ 0 ∷ 1 ∷ 2 ∷ 2 ∷ 0 ∷ 2 ∷ g.blocks / 256 % 256 ∷ g.blocks % 256 ∷ 3 ∷ 0 ∷ 2 ∷ g.slots / 256 % 256 ∷ g.slots % 256 ∷ 0 ∷ 0 ∷ [] ≡ header_bytes g
+unfolding header_bytes fields_of field big_endian
+header_laid g = refl
+
+-- the same of sizes of two bytes each
 pub header_sixteen : (g : Geometry) → TwoBytes g
     → 1 ∷ 0 ∷ 1 ∷ 2 ∷ 2 ∷ 0 ∷ 2 ∷ g.blocks / 256 ∷ g.blocks % 256 ∷ 3 ∷ 0 ∷ 2 ∷ g.slots / 256 ∷ g.slots % 256 ∷ 0 ∷ 0 ∷ [] ≡ header_bytes g
 unfolding header_bytes fields_of field big_endian
@@ -67,10 +73,6 @@ header_sixteen g two =
 pub second_part : (g : Geometry) (header : List ℕ) → header ≡ header_bytes g → take 8 (drop 8 header) ≡ drop 8 (header_bytes g)
 unfolding header_bytes fields_of field big_endian
 second_part g header e = ap (λ (bytes : List ℕ). take 8 (drop 8 bytes)) e
-
-pub whole_header : (g : Geometry) (header : List ℕ) → header ≡ header_bytes g → take 16 header ≡ header_bytes g
-unfolding header_bytes fields_of field big_endian
-whole_header g header e = ap (take 16) e
 
 -- byte 0 is tag 1
 pub first_not_zero : (g : Geometry) → take 8 (header_bytes g) ≢ zero_word

@@ -3,7 +3,7 @@ use mathlib.Core.Path.{◌≡◌, refl, sym, ap, ◌∙◌, subst}
 use mathlib.Core.Logic.{◌≢◌, ◌⊎◌, inl, inr}
 use mathlib.Core.Bool.{Bool, true, false, not, cond}
 use mathlib.Core.List.{List, [], ◌++◌}
-use mathlib.Core.Option.{Option, none, some}
+use Rattle.std.specs.Prelude.{Option, None, Some}
 use Prim.Native.Nat.{ℕ, ◌*◌, ◌≤◌}
 use native.Mathlib.Omega.{arith}
 use native.Mathlib.Nat.{suc-ne-zero}
@@ -115,17 +115,17 @@ unfolding recover_number no_checkpoint unsound head_of head_from number_of saved
 shown board g fine lent e = go (finished_in g board.memory) refl (sizes_passed board g (recovery_checks board g (finished_in g board.memory)) e).2
   where
     go : (x : Option Backup) → finished_in g board.memory ≡ x → number_of (first_of (recovery_checks board g x)) ≡ 0 → Shown g board.memory
-    go none f q = absurd (suc-ne-zero 9 q)
-    go (some x) f q =
+    go None f q = absurd (suc-ne-zero 9 q)
+    go (Some x) f q =
         let table : List ℕ = table_in g board.memory x in
         let good : sound g table ≡ true = not-false (sound g table) (passed (not (sound g table)) No.Backup [] (suc-ne-zero 10) q).0 in
         let picture : Picture = saved_in g board.memory x in
-        let plain : Plain = record { live = picture.blocks; kept = picture; on_its_way = none } in
+        let plain : Plain = record { live = picture.blocks; kept = picture; on_its_way = None } in
         let after : Board = recovered g board.memory (cache_of board) x (saved_registers g board.memory x) table in
         let kept : Kept g board.memory x (saved_registers g board.memory x) table picture =
         record { reads = ap (head_from g board.memory) f; good = good; image = λ block lt. refl; given = refl }
         in
-        let run : Run = record { board = after; promise = some plain } in
+        let run : Run = record { board = after; promise = Some plain } in
         record {
           picture = picture;
           recovers = good_recovers g run plain (record { stands = refl; inv = recovered_inv g board plain fine lent kept (λ block lt. refl); same = refl });

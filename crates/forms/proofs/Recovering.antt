@@ -2,7 +2,7 @@
 use mathlib.Core.Path.{◌≡◌, refl, ap, ◌∙◌}
 use mathlib.Core.Bool.{Bool, true, false, cond}
 use mathlib.Core.List.{List, []}
-use mathlib.Core.Option.{Option, none, some}
+use Rattle.std.specs.Prelude.{Option, None, Some}
 use Prim.Native.Nat.{ℕ}
 use lib.Dec.{eqb, leb-zero}
 use lib.Seq.{take-nil}
@@ -37,8 +37,8 @@ guarded n {q} s = go (eqb (number_of n) 0)
 
 from_storeless : (board : Board) (g : Geometry) (finished : Option Backup) → Storeless (recover_from board g finished)
 unfolding recover_from
-from_storeless board g none = refuses
-from_storeless board g (some backup) = carries
+from_storeless board g None = refuses
+from_storeless board g (Some backup) = carries
 
 -- such a plan leaves the memory, and does on the longer one what it does on the old
 pub record AsOld (p : ℕ) (board : Board) (q : Plan) : Type 0 where

@@ -1,7 +1,7 @@
 -- The runs of demand 3 in both forms begin well: after a format of either form, and after one of the new form that is cut from its mark on.
 use mathlib.Core.Path.{◌≡◌, refl, sym, ap, ◌∙◌, subst}
 use mathlib.Core.List.{List, []}
-use mathlib.Core.Option.{some}
+use Rattle.std.specs.Prelude.{Some}
 use Prim.Native.Nat.{ℕ, zero, suc, ◌+◌, ◌*◌, ◌≤◌, ◌<◌}
 use native.Mathlib.Omega.{arith}
 use native.Mathlib.Nat.{suc-ne-zero, le_refl}
@@ -53,7 +53,7 @@ pub long_size : (board : Board) (g : Geometry) → Lent g (old_board board) → 
 long_size board g l = let e = l.memory in omega (arith, without-length board.memory, e)
 
 pub afresh_good : (board : Board) (g : Geometry) (fill : ℕ) → number_of (first_of (sizes_checks board g)) ≡ 0
-    → Good g (record { board = afresh board g fill; promise = some (formatted fill) }) (formatted fill)
+    → Good g (record { board = afresh board g fill; promise = Some (formatted fill) }) (formatted fill)
 unfolding Old.call Old.plan Starts.format_plan number_of
 afresh_good board g fill z =
     let enough = length (format_list g fill) in
@@ -62,7 +62,7 @@ afresh_good board g fill z =
     carried enough (old_board board) (format_number (old_board board) g) (format_list g fill) (formatted_side board g) passed (le_refl enough)
     in
     let i = format_inv g fill enough (old_board board) (ap (λ (o : Outcome). number_of o.number) is) in
-    subst (λ (b : Board). Good g (record { board = b; promise = some (formatted fill) }) (formatted fill)) (ap (λ (o : Outcome). o.board) is)
+    subst (λ (b : Board). Good g (record { board = b; promise = Some (formatted fill) }) (formatted fill)) (ap (λ (o : Outcome). o.board) is)
     (record { stands = refl; inv = i.0; same = i.1 })
 
 -- the new form's, from its mark on
@@ -93,7 +93,7 @@ module _ (g : Geometry) (fill : ℕ) where
       let i = format_inv g fill p (old_board before) e in
       let a = guard_accepted p (old_board before) (format_number (old_board before) g) (carry (format_list g fill) (formatted_side before g) []) e in
       let l = (sizes_passed (old_board before) g [] a.0).1 in
-      beside_well g before.memory (record { board = (Old.call p (old_board before) (Old.format g fill)).board; promise = some (formatted fill) }) (formatted fill)
+      beside_well g before.memory (record { board = (Old.call p (old_board before) (Old.format g fill)).board; promise = Some (formatted fill) }) (formatted fill)
       (long_size before g l) clear (record { stands = refl; inv = i.0; same = i.1 })
 
   pub new_begins : (p : ℕ) (before : Board) → number_of (call p before (format g fill)).number ≡ 0 → Begins (call p before (format g fill)).board
@@ -106,7 +106,7 @@ module _ (g : Geometry) (fill : ℕ) where
           let l = left_from_mark before g fill p z (omega (arith, long_length g fill, enough)) in
           record {
             good =
-                subst (λ (part : List ℕ). Good g (record { board = record { memory = part; volatile = formatted_side before g }; promise = some (formatted fill) }) (formatted fill))
+                subst (λ (part : List ℕ). Good g (record { board = record { memory = part; volatile = formatted_side before g }; promise = Some (formatted fill) }) (formatted fill))
                 (sym l.same) (afresh_good before g fill z);
             size = l.size;
             clear = l.clear;
@@ -118,12 +118,12 @@ module _ (g : Geometry) (fill : ℕ) where
       → Good g
       (record {
         board = (Old.call 0 (record { memory = lay (format_list g fill) (without before.memory); volatile = volatile }) (Old.recover g)).board;
-        promise = some (formatted fill);
+        promise = Some (formatted fill);
       })
       (formatted fill)
   unfolding OldRuns.stopping formatted
   recovered_good before volatile z l =
-      let good = stop_good g volatile (record { board = afresh before g fill; promise = some (formatted fill) }) (formatted fill) l (afresh_good before g fill z) in
+      let good = stop_good g volatile (record { board = afresh before g fill; promise = Some (formatted fill) }) (formatted fill) l (afresh_good before g fill z) in
       record { stands = refl; inv = good.inv; same = good.same }
 
   cut_begins : (p : ℕ) (before : Board) (volatile : Volatile) → number_of (call p before (format g fill)).number ≡ 20 → 8 * g.blocks + g.slots + 11 ≤ p → Lengths g volatile
@@ -139,10 +139,10 @@ module _ (g : Geometry) (fill : ℕ) where
           let left = left_from_mark before g fill p z (omega (arith, old_words g fill, marked)) in
           let memory : List ℕ = lay (take p (long_format_list g fill)) before.memory in
           beside_well g memory
-          (record { board = (Old.call 0 (record { memory = without memory; volatile = volatile }) (Old.recover g)).board; promise = some (formatted fill) })
+          (record { board = (Old.call 0 (record { memory = without memory; volatile = volatile }) (Old.recover g)).board; promise = Some (formatted fill) })
           (formatted fill) left.size left.clear
           (subst
-          (λ (part : List ℕ). Good g (record { board = (Old.call 0 (record { memory = part; volatile = volatile }) (Old.recover g)).board; promise = some (formatted fill) }) (formatted fill))
+          (λ (part : List ℕ). Good g (record { board = (Old.call 0 (record { memory = part; volatile = volatile }) (Old.recover g)).board; promise = Some (formatted fill) }) (formatted fill))
           (sym left.same) (recovered_good before volatile z l))
 
   begins : (board : Board) → Formatted g fill board → Begins board

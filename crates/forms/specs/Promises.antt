@@ -1,7 +1,6 @@
 -- What is promised of the new stored form (document 02, No. 6).
 -- Their proofs are in proofs/HeaderBytes.antt, Fitting.antt, Moves.antt, Ending.antt, Lists.antt, CutFormats.antt, Demand2.antt and Demand3.antt.
-use Rattle.std.specs.Prelude.{◌≡◌, ◌≢◌, ◌↔◌, ◌⊎◌, List, [], ℕ, ◌+◌, ◌*◌, ◌≤◌, ◌<◌, length, replicate}
-use Rattle.std.proofs.Math.Option.{none, some}
+use Rattle.std.specs.Prelude.{◌≡◌, ◌≢◌, ◌↔◌, ◌⊎◌, List, [], ℕ, ◌+◌, ◌*◌, ◌≤◌, ◌<◌, length, replicate, None, Some}
 use Rattle.words.specs.Words.{word, words}
 use Rattle.rules.specs.declared.Geometry.{Geometry}
 use Rattle.rules.specs.declared.Phase.TheVariants.{Off}
@@ -88,7 +87,7 @@ pub record RecoversInBoth (g : Geometry) (picture : Picture) (memory : List ℕ)
 -- a run whose board recovers to what is kept, in both forms: now, and after any prefix of the word list of any further call but a format
 pub record SafeInBoth (g : Geometry) (run : Run) : Type 0 where
   pub plain : Plain
-  pub stands : run.promise ≡ some plain
+  pub stands : run.promise ≡ Some plain
   -- its live blocks, of which a begin takes the picture, are what loads give
   pub shows : Shows (old_board run.board) plain
   pub now : RecoversInBoth g plain.kept run.board.memory
@@ -110,8 +109,8 @@ unfoldable pub Demand2 : Type 0
 Demand2 =
     (board : Board) (events : List Event) (plain : Plain)
     → 16 ≤ length board.memory
-    → (runs events (record { board = board; promise = none })).promise ≡ some plain
-    → Shows (old_board (runs events (record { board = board; promise = none })).board) plain
+    → (runs events (record { board = board; promise = None })).promise ≡ Some plain
+    → Shows (old_board (runs events (record { board = board; promise = None })).board) plain
 
 -- ---- moves
 

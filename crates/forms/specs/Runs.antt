@@ -1,6 +1,5 @@
 -- Runs on a board of the longer memory: calls of both forms, moves and losses of supply, and what stands promised after them.
-use Rattle.std.specs.Prelude.{◌≡◌, ◌≢◌, ◌⊎◌, List, [], ◌∷◌, ◌++◌, ℕ, ◌+◌, ◌*◌, ◌≤◌}
-use Rattle.std.proofs.Math.Option.{Option, some}
+use Rattle.std.specs.Prelude.{◌≡◌, ◌≢◌, ◌⊎◌, List, [], ◌∷◌, ◌++◌, ℕ, ◌+◌, ◌*◌, ◌≤◌, Option, Some}
 use Rattle.words.specs.Words.{word, words}
 use Rattle.rules.specs.declared.Geometry.{Geometry}
 use Rattle.rules.specs.Board.{Board, Volatile, sizes}
@@ -128,7 +127,7 @@ pub data Formatted (g : Geometry) (fill : ℕ) : Board → Type 0 where
 
 -- the format counts as the first checkpoint
 abbrev pub formatted_run : ℕ → Board → Run
-formatted_run fill board = record { board = board; promise = some (formatted fill) }
+formatted_run fill board = record { board = board; promise = Some (formatted fill) }
 
 pub record FromFormat (g : Geometry) : Type 0 where
   pub fill : ℕ

@@ -87,7 +87,7 @@ module _ (p : ℕ) (m c t : List ℕ) (k : Controller) (g : Geometry) where
 
   pub recover_refused : (n : Number) {r : Recovery} → n ≡ first_of (named_checks true board g) → number_of n ≢ 0 → r ≡ refused_recovery n k → Recovered (call p board (recover g)) r m c t
   unfolding call recover_plan
-  recover_refused n e ne q = refused_says n q (refused_is p m c t k _ n _ _ (headed_stops true board g e ne) ne refl)
+  recover_refused n e ne q = refused_says n q (refused_is p m c t k _ n _ _ (headed_stops true board g (e, ne)).0 ne refl)
 
   pub recover_goes : (n : Number) {r : Recovery} {words : ℕ} {t' : List ℕ} → n ≡ first_of (named_checks true board g) → number_of n ≡ 0 → length m ≡ 8 * long_words g → words ≡ memory_words g
       → Recovered (Old.call p (board_of (take (8 * words) m) c t k) (Old.recover g)) r (take (8 * words) m) c t' → Recovered (call p board (recover g)) r m c t'

@@ -1,4 +1,5 @@
 // The calls of the new stored form: the board's sizes in two words after the mark (document 02, No. 6). None has a `requires`.
+// What is lent comes one by one, by & or &mut as the call needs it: one value of all of it would ask callers for more.
 #![tactic(auto)]
 
 ghost use Rattle.std.specs.Prelude.{◌≡◌, ℕ};
@@ -7,17 +8,17 @@ ghost use Rattle.rules.specs.Power.{outcome_of};
 ghost use Rattle.rules.specs.Starts.{Recovered};
 ghost use Rattle.forms.specs.Calls as Call;
 
-use crate::numbers::{headed_number, named_number, sizes_number};
+use crate::numbers::{check_headed, check_named, check_sizes};
 use crate::stored::{header_in, lay_long_format, lay_up, lay_zeros, long_format_words};
 use backups::{refused_recovery, started};
 use checks::answers::{ended, refused, reply};
-use checks::numbers::accepted;
 use rules::{Answer, Backup, Controller, Geometry, Number, Recovery};
 use starts::formats::{clear_table, cut_short};
 
 mod numbers;
 mod stored;
 
+// The end is written out as in the old form's format: one function of both costs 131 instructions at 64/16.
 pub fn format(
     memory: &mut [u8],
     cache: &[u8],
@@ -29,19 +30,17 @@ pub fn format(
 ) -> Answer
     ensures { Call.call p (board_of memory.old cache.now table.old controller) (Call.format g fill) ≡ outcome_of result memory.new cache.now table.new }
 {
-    let number = sizes_number(memory, cache, table, g);
-    if !accepted(number) {
+    if let Err(number) = check_sizes(memory, cache, table, g) {
         return refused(number, controller);
     }
     // known before the first word is stored
     let words = long_format_words(g);
     lay_long_format(memory, g, fill, p);
     if p < words {
-        let off = cut_short(controller, g);
-        return reply(Number::Cut, p, off);
+        return reply(Number::Cut, p, cut_short(controller, g));
     }
     clear_table(table);
-    let formatted = started(g, Backup::A, [0u8; 64]);
+    let formatted = started(g, Backup::A, [0; 64]);
     reply(Number::Done, words, formatted)
 }
 
@@ -55,8 +54,7 @@ pub fn recover(
 ) -> Recovery
     ensures { (p : ℕ) → Recovered (Call.call p (board_of memory.now cache.now table.old controller) (Call.recover g)) result memory.now cache.now table.new }
 {
-    let number = named_number(memory, cache, table, g, true);
-    if !accepted(number) {
+    if let Err(number) = check_named(memory, cache, table, g, true) {
         return refused_recovery(number, controller);
     }
     let end = 8 * g.memory_words();
@@ -74,8 +72,7 @@ pub fn move_up(
 ) -> Answer
     ensures { Call.call p (board_of memory.old cache.now table.now controller) (Call.up g) ≡ outcome_of result memory.new cache.now table.now }
 {
-    let number = headed_number(memory, cache, table, g, false);
-    if !accepted(number) {
+    if let Err(number) = check_headed(memory, cache, table, g, false) {
         return refused(number, controller);
     }
     let header = header_in(memory, g);
@@ -94,8 +91,7 @@ pub fn move_back(
 ) -> Answer
     ensures { Call.call p (board_of memory.old cache.now table.now controller) (Call.back g) ≡ outcome_of result memory.new cache.now table.now }
 {
-    let number = headed_number(memory, cache, table, g, true);
-    if !accepted(number) {
+    if let Err(number) = check_headed(memory, cache, table, g, true) {
         return refused(number, controller);
     }
     let words = lay_zeros(memory, g, p);

@@ -7,18 +7,16 @@ ghost use Rattle.forms.specs.Calls.{long_format_list, up_list};
 use forms::Header;
 use rules::Geometry;
 use starts::formats::{format_words, lay_format};
-use words::{fill_words, lay_bytes, left_of, same_bytes};
+use words::{fill_words, lay_bytes};
+
+// The memory's length stands in each contract: a type of the slice and the sizes would be one for & and one for &mut.
 
 // N's high byte ends the first word, its low byte starts the second.
 pub fn header_bytes(g: Geometry) -> [u8; 16]
     ensures { result ≡ header_bytes g }
 {
-    let blocks = g.blocks;
-    let slots = g.slots;
-    let blocks_high = (blocks / 256) as u8;
-    let blocks_low = (blocks % 256) as u8;
-    let slots_high = (slots / 256) as u8;
-    let slots_low = (slots % 256) as u8;
+    let [blocks_high, blocks_low] = g.blocks.to_be_bytes();
+    let [slots_high, slots_low] = g.slots.to_be_bytes();
     [
         1,
         0,
@@ -43,13 +41,13 @@ pub fn header_in(memory: &[u8], g: Geometry) -> Header
     requires { length memory.now ≡ 8 * long_words g }
     ensures { result ≡ header_of g memory.now }
 {
-    let start = 8 * g.memory_words();
+    let stored = &memory[8 * g.memory_words()..];
     let zeros = [0u8; 8];
-    if same_bytes(&memory[start..], &zeros, 8) {
+    if stored[..8] == zeros[..] {
         return Header::Missing;
     }
     let wanted = header_bytes(g);
-    if same_bytes(&memory[start..], &wanted, 16) {
+    if stored[..16] == wanted[..] {
         return Header::Fits;
     }
     Header::Other
@@ -72,7 +70,7 @@ pub fn lay_header(memory: &mut [u8], g: Geometry, p: usize) -> usize
     let second_place = first_place + 1;
     let header = header_bytes(g);
     let second = lay_bytes(memory, second_place, &header[8..], 1, p);
-    let left = left_of(p, second);
+    let left = p.saturating_sub(second);
     let first = lay_bytes(memory, first_place, &header, 1, left);
     second + first
 }
@@ -85,7 +83,7 @@ pub fn lay_zeros(memory: &mut [u8], g: Geometry, p: usize) -> usize
     let first_place = g.memory_words();
     let second_place = first_place + 1;
     let first = fill_words(memory, first_place, 1, 0, p);
-    let left = left_of(p, first);
+    let left = p.saturating_sub(first);
     let second = fill_words(memory, second_place, 1, 0, left);
     first + second
 }
@@ -114,9 +112,9 @@ pub fn lay_long_format(memory: &mut [u8], g: Geometry, fill: u8, p: usize) -> us
     ensures { Lays p (long_format_list g fill) memory.old memory.new result }
 {
     let zeroed = zero_first(memory, g, p);
-    let left1 = left_of(p, zeroed);
+    let left1 = p.saturating_sub(zeroed);
     let formatted = lay_format(memory, g, fill, left1);
-    let left2 = left_of(left1, formatted);
+    let left2 = left1.saturating_sub(formatted);
     let headed = lay_header(memory, g, left2);
     zeroed + (formatted + headed)
 }

@@ -1,4 +1,5 @@
 // The board's calls with the controller record lent: each finds it and leaves it updated (document 02, No. 4 and No. 7).
+// What is lent comes one by one, by & or &mut as the call needs it: one value of all of it would ask callers for more.
 #![tactic(auto)]
 
 ghost use Rattle.std.specs.Prelude.{◌≡◌, ℕ};
@@ -11,56 +12,50 @@ ghost use Rattle.inner.specs.Replies.{answered, recovered};
 use rules::{Answer, Controller, Geometry, Number, Recovery, Registers};
 
 // What an answer says beside the record.
-#[derive(Clone, Copy)]
+#[derive(Clone, Copy, Debug, PartialEq, Eq)]
 pub struct Reply {
     pub number: Number,
     pub words: usize,
 }
 
 // What a recovery says beside the record.
-#[derive(Clone, Copy)]
+#[derive(Clone, Copy, Debug, PartialEq, Eq)]
 pub struct Regained {
     pub number: Number,
     pub words: usize,
     pub registers: Registers,
 }
 
-// An answer and a recovery, taken apart.
+impl From<Answer> for Reply {
+    ghost from_gives = { λ answer reply. reply ≡ record { number = answer.number; words = answer.words } };
 
-fn record_in(answer: Answer) -> Controller
-    ensures { result ≡ answer.controller }
-{
-    answer.controller
-}
-
-fn reply_in(answer: Answer) -> Reply
-    ensures { result ≡ record { number = answer.number; words = answer.words } }
-{
-    let number = answer.number;
-    Reply {
-        number,
-        words: answer.words,
+    fn from(answer: Answer) -> Reply {
+        Reply {
+            number: answer.number,
+            words: answer.words,
+        }
     }
 }
 
-fn record_regained(recovery: Recovery) -> Controller
-    ensures { result ≡ recovery.answer.controller }
-{
-    let answer = recovery.answer;
-    answer.controller
+impl From<Recovery> for Regained {
+    ghost from_gives = { λ recovery regained. regained ≡ record { number = recovery.answer.number; words = recovery.answer.words; registers = recovery.registers } };
+
+    fn from(recovery: Recovery) -> Regained {
+        let Reply { number, words } = Reply::from(recovery.answer);
+        Regained {
+            number,
+            words,
+            registers: recovery.registers,
+        }
+    }
 }
 
-fn regained_in(recovery: Recovery) -> Regained
-    ensures { result ≡ record { number = recovery.answer.number; words = recovery.answer.words; registers = recovery.registers } }
+// Leaves the record of an answer where it was lent, and tells the rest.
+fn leave(answer: Answer, controller: &mut Controller) -> Reply
+    ensures { answered result controller.new ≡ answer }
 {
-    let said = recovery.answer;
-    let number = said.number;
-    let registers = recovery.registers;
-    Regained {
-        number,
-        words: said.words,
-        registers,
-    }
+    *controller = answer.controller;
+    Reply::from(answer)
 }
 
 pub fn store(
@@ -76,8 +71,7 @@ pub fn store(
     ensures { C.call p (board_of memory.old cache.old table.old controller.old) (C.store block offset bytes.now) ≡ outcome_of (answered result controller.new) memory.new cache.new table.new }
 {
     let answer = board::store(memory, cache, table, *controller, block, offset, bytes, p);
-    *controller = record_in(answer);
-    reply_in(answer)
+    leave(answer, controller)
 }
 
 pub fn begin(
@@ -91,8 +85,7 @@ pub fn begin(
     ensures { C.call p (board_of memory.old cache.now table.old controller.old) (C.begin registers.now) ≡ outcome_of (answered result controller.new) memory.new cache.now table.new }
 {
     let answer = board::begin(memory, cache, table, *controller, registers, p);
-    *controller = record_in(answer);
-    reply_in(answer)
+    leave(answer, controller)
 }
 
 pub fn step(
@@ -106,8 +99,7 @@ pub fn step(
     ensures { C.call p (board_of memory.old cache.now table.now controller.old) (C.step most) ≡ outcome_of (answered result controller.new) memory.new cache.now table.now }
 {
     let answer = board::step(memory, cache, table, *controller, most, p);
-    *controller = record_in(answer);
-    reply_in(answer)
+    leave(answer, controller)
 }
 
 pub fn sweep(
@@ -121,8 +113,7 @@ pub fn sweep(
     ensures { C.call p (board_of memory.old cache.now table.old controller.old) (C.sweep limit) ≡ outcome_of (answered result controller.new) memory.new cache.now table.new }
 {
     let answer = board::sweep(memory, cache, table, *controller, limit, p);
-    *controller = record_in(answer);
-    reply_in(answer)
+    leave(answer, controller)
 }
 
 pub fn format(
@@ -137,8 +128,7 @@ pub fn format(
     ensures { C.call p (board_of memory.old cache.now table.old controller.old) (C.format g fill) ≡ outcome_of (answered result controller.new) memory.new cache.now table.new }
 {
     let answer = board::format(memory, cache, table, *controller, g, fill, p);
-    *controller = record_in(answer);
-    reply_in(answer)
+    leave(answer, controller)
 }
 
 pub fn recover(
@@ -151,6 +141,6 @@ pub fn recover(
     ensures { (p : ℕ) → Recovered (C.call p (board_of memory.now cache.now table.old controller.old) (C.recover g)) (recovered result controller.new) memory.now cache.now table.new }
 {
     let recovery = board::recover(memory, cache, table, *controller, g);
-    *controller = record_regained(recovery);
-    regained_in(recovery)
+    *controller = recovery.answer.controller;
+    Regained::from(recovery)
 }

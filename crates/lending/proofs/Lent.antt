@@ -2,7 +2,7 @@
 use mathlib.Core.Path.{◌≡◌, refl, sym, ap, ◌∙◌}
 use mathlib.Core.Bool.{Bool, true, false, cond}
 use mathlib.Core.List.{List, [], ◌++◌}
-use Prim.Native.Nat.{ℕ, ◌-◌}
+use Prim.Native.Nat.{ℕ}
 use lib.Dec.{eqb}
 use lib.ListN.{length, take, drop, take-append-drop}
 use Rattle.rules.specs.declared.Geometry.{Geometry}
@@ -50,8 +50,8 @@ module _ (p : ℕ) (memory cache table : List ℕ) (k : Controller) (g : Geometr
       }
 
 -- a part that is lent unchangeable stays
-pub stays : (n : ℕ) (l : List ℕ) → l ≡ take (n - 0) l ++ drop (n - 0) l
-stays n l = sym (take-append-drop (n - 0) l)
+pub stays : (n : ℕ) (l : List ℕ) → l ≡ take n l ++ drop n l
+stays n l = sym (take-append-drop n l)
 
 -- a load's outcome, from what it promises
 read_is : (board : Board) (block offset : ℕ) (into into' : List ℕ) (r : Number) → Loaded board block offset into into' r

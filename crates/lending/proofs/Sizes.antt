@@ -1,9 +1,8 @@
 -- The sizes that the arrays hold, and the lengths that are lent.
-use mathlib.Core.Path.{◌≡◌, sym, ap, ◌∙◌}
+use mathlib.Core.Path.{◌≡◌, sym, ap}
 use mathlib.Core.Bool.{Bool, true, false, cond}
 use mathlib.Core.List.{List}
-use Prim.Native.Nat.{ℕ, ◌-◌, ◌≤◌}
-use native.Mathlib.Omega.{arith}
+use Prim.Native.Nat.{ℕ, ◌≤◌}
 use lib.Dec.{leb}
 use lib.ListN.{length, take}
 use lib.Seq.{length-take-le}
@@ -26,9 +25,5 @@ some_lent n e = sym (ap (λ (b : Bool). cond b n 0) e)
 pub none_lent : {fit : Bool} (n : ℕ) → fit ≡ false → 0 ≡ cond fit n 0
 none_lent n e = sym (ap (λ (b : Bool). cond b n 0) e)
 
--- a part that starts with the first byte
-pub from_first : {m n : ℕ} → m ≡ n → m - 0 ≡ n
-from_first e = omega (arith, e)
-
-pub first_length : (n : ℕ) (l : List ℕ) → n ≤ length l → length (take (n - 0) l) ≡ n
-first_length n l h = length-take-le (n - 0) l (omega arith) ∙ omega arith
+pub first_length : (n : ℕ) (l : List ℕ) → n ≤ length l → length (take n l) ≡ n
+first_length n l h = length-take-le n l h

@@ -1,16 +1,20 @@
 -- The part of the bench's own arrays that a board of some sizes is lent, and a call on it (document 01, The bench trace).
-use Rattle.std.specs.Prelude.{◌≡◌, Bool, ◌&&◌, cond, List, ◌++◌, ℕ, ◌*◌, leb, length, take, drop}
+use Rattle.std.specs.Prelude.{Bool, ◌&&◌, cond, ◌++◌, ℕ, ◌*◌, leb, take, drop}
 use Rattle.rules.specs.declared.Geometry.{Geometry}
+use Rattle.rules.specs.declared.Controller.{Controller}
+use Rattle.rules.specs.declared.Answer.{Answer}
 use Rattle.rules.specs.Geometry.{memory_words}
 use Rattle.rules.specs.Board.{Board, cache_of, table_of, board_of}
-use Rattle.rules.specs.Power.{Outcome}
+use Rattle.rules.specs.Power.{Outcome, outcome_of}
 use Rattle.rules.specs.Calls.{Call, call}
+use Rattle.lending.specs.declared.Arrays.{Arrays}
 
--- the arrays' lengths: what N = 64 and B = 16 take
-pub record Arrays (memory cache table : List ℕ) : Type 0 where
-  pub memory_size : length memory ≡ 5512
-  pub cache_size : length cache ≡ 1024
-  pub table_size : length table ≡ 16
+-- the board in the arrays with a record, and a call's outcome in them
+abbrev pub board_in : Arrays → Controller → Board
+board_in arrays controller = board_of arrays.memory arrays.cache arrays.table controller
+
+abbrev pub outcome_in : Answer → Arrays → Outcome
+outcome_in answer arrays = outcome_of answer arrays.memory arrays.cache arrays.table
 
 -- N up to 64 and B up to 16
 unfoldable pub fits : Geometry → Bool

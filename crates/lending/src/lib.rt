@@ -12,6 +12,14 @@ ghost use Rattle.lending.specs.Lending as L;
 use board::{begin, format, load, recover, step, store};
 use rules::{Answer, Controller, Geometry, Number, Recovery};
 
+// The bench's own arrays: what N = 64 and B = 16 take.
+#[derive(Clone, Copy)]
+pub struct Arrays {
+    pub memory: [u8; 5512],
+    pub cache: [u8; 1024],
+    pub table: [u64; 16],
+}
+
 // Whether the arrays hold a board of these sizes. Larger ones are lent nothing, so that the board itself refuses them.
 pub fn fits_in(g: Geometry) -> bool
     ensures { result ≡ L.fits g }
@@ -19,6 +27,7 @@ pub fn fits_in(g: Geometry) -> bool
     (g.blocks <= 64) & (g.slots <= 16)
 }
 
+// Three lengths, each by its own definition.
 pub fn lent_memory(g: Geometry) -> usize
     ensures { (result ≡ L.lent_memory g) × (result ≤ 5512) }
 {
@@ -46,25 +55,23 @@ pub fn lent_table(g: Geometry) -> usize
     g.slots as usize
 }
 
-pub fn format_lent(
-    memory: &mut [u8],
-    cache: &[u8],
-    table: &mut [u64],
+// The methods that change an array hand all three on to a function that lends their parts: no check follows
+// a part of an array that lies behind a reference to the struct.
+fn format_lent(
+    memory: &mut [u8; 5512],
+    cache: &[u8; 1024],
+    table: &mut [u64; 16],
     controller: Controller,
     g: Geometry,
     fill: u8,
     p: usize,
 ) -> Answer
-    requires { L.Arrays memory.old cache.now table.old }
     ensures { L.called p (board_of memory.old cache.now table.old controller) g (C.format g fill) ≡ outcome_of result memory.new cache.now table.new }
 {
-    let bytes = lent_memory(g);
-    let cached = lent_cache(g);
-    let slots = lent_table(g);
     format(
-        &mut memory[0..bytes],
-        &cache[0..cached],
-        &mut table[0..slots],
+        &mut memory[..lent_memory(g)],
+        &cache[..lent_cache(g)],
+        &mut table[..lent_table(g)],
         controller,
         g,
         fill,
@@ -72,27 +79,23 @@ pub fn format_lent(
     )
 }
 
-pub fn store_lent(
-    memory: &mut [u8],
-    cache: &mut [u8],
-    table: &mut [u64],
+fn store_lent(
+    memory: &mut [u8; 5512],
+    cache: &mut [u8; 1024],
+    table: &mut [u64; 16],
     controller: Controller,
     block: usize,
     offset: usize,
     bytes: &[u8],
     p: usize,
 ) -> Answer
-    requires { L.Arrays memory.old cache.old table.old }
     ensures { L.called p (board_of memory.old cache.old table.old controller) controller.geometry (C.store block offset bytes.now) ≡ outcome_of result memory.new cache.new table.new }
 {
     let g = controller.geometry;
-    let held = lent_memory(g);
-    let cached = lent_cache(g);
-    let slots = lent_table(g);
     store(
-        &mut memory[0..held],
-        &mut cache[0..cached],
-        &mut table[0..slots],
+        &mut memory[..lent_memory(g)],
+        &mut cache[..lent_cache(g)],
+        &mut table[..lent_table(g)],
         controller,
         block,
         offset,
@@ -101,102 +104,155 @@ pub fn store_lent(
     )
 }
 
-// The number, and accepted the bytes in `into`.
-pub fn load_lent(
-    memory: &[u8],
-    cache: &[u8],
-    table: &[u64],
-    controller: Controller,
-    block: usize,
-    offset: usize,
-    into: &mut [u8],
-) -> Number
-    requires { L.Arrays memory.now cache.now table.now }
-    ensures { L.called 0 (board_of memory.now cache.now table.now controller) controller.geometry (C.load block offset (length into.old)) ≡ read_of (board_of memory.now cache.now table.now controller) result into.new }
-{
-    let g = controller.geometry;
-    let held = lent_memory(g);
-    let cached = lent_cache(g);
-    let slots = lent_table(g);
-    load(
-        &memory[0..held],
-        &cache[0..cached],
-        &table[0..slots],
-        controller,
-        block,
-        offset,
-        into,
-    )
-}
-
-pub fn begin_lent(
-    memory: &mut [u8],
-    cache: &[u8],
-    table: &mut [u64],
+fn begin_lent(
+    memory: &mut [u8; 5512],
+    cache: &[u8; 1024],
+    table: &mut [u64; 16],
     controller: Controller,
     registers: &[u8],
     p: usize,
 ) -> Answer
-    requires { L.Arrays memory.old cache.now table.old }
     ensures { L.called p (board_of memory.old cache.now table.old controller) controller.geometry (C.begin registers.now) ≡ outcome_of result memory.new cache.now table.new }
 {
     let g = controller.geometry;
-    let held = lent_memory(g);
-    let cached = lent_cache(g);
-    let slots = lent_table(g);
     begin(
-        &mut memory[0..held],
-        &cache[0..cached],
-        &mut table[0..slots],
+        &mut memory[..lent_memory(g)],
+        &cache[..lent_cache(g)],
+        &mut table[..lent_table(g)],
         controller,
         registers,
         p,
     )
 }
 
-pub fn step_lent(
-    memory: &mut [u8],
-    cache: &[u8],
-    table: &[u64],
+fn step_lent(
+    memory: &mut [u8; 5512],
+    cache: &[u8; 1024],
+    table: &[u64; 16],
     controller: Controller,
     most: usize,
     p: usize,
 ) -> Answer
-    requires { L.Arrays memory.old cache.now table.now }
     ensures { L.called p (board_of memory.old cache.now table.now controller) controller.geometry (C.step most) ≡ outcome_of result memory.new cache.now table.now }
 {
     let g = controller.geometry;
-    let held = lent_memory(g);
-    let cached = lent_cache(g);
-    let slots = lent_table(g);
     step(
-        &mut memory[0..held],
-        &cache[0..cached],
-        &table[0..slots],
+        &mut memory[..lent_memory(g)],
+        &cache[..lent_cache(g)],
+        &table[..lent_table(g)],
         controller,
         most,
         p,
     )
 }
 
-pub fn recover_lent(
-    memory: &[u8],
-    cache: &[u8],
-    table: &mut [u64],
+fn recover_lent(
+    memory: &[u8; 5512],
+    cache: &[u8; 1024],
+    table: &mut [u64; 16],
     controller: Controller,
 ) -> Recovery
-    requires { L.Arrays memory.now cache.now table.old }
     ensures { Recovered (L.called 0 (board_of memory.now cache.now table.old controller) controller.geometry (C.recover controller.geometry)) result memory.now cache.now table.new }
 {
     let g = controller.geometry;
-    let held = lent_memory(g);
-    let cached = lent_cache(g);
-    let slots = lent_table(g);
     recover(
-        &memory[0..held],
-        &cache[0..cached],
-        &mut table[0..slots],
+        &memory[..lent_memory(g)],
+        &cache[..lent_cache(g)],
+        &mut table[..lent_table(g)],
         controller,
         g,
     )
+}
+
+// Each call is that of the board, on the part that its sizes are lent.
+impl Arrays {
+    pub fn format(&mut self, controller: Controller, g: Geometry, fill: u8, p: usize) -> Answer
+        ensures outcome { L.called p (L.board_in self.old controller) g (C.format g fill) ≡ L.outcome_in result self.new }
+        ensures cache { self.new.cache ≡ self.old.cache }
+    {
+        let Arrays {
+            memory,
+            cache,
+            table,
+        } = self;
+        format_lent(memory, cache, table, controller, g, fill, p)
+    }
+
+    pub fn store(
+        &mut self,
+        controller: Controller,
+        block: usize,
+        offset: usize,
+        bytes: &[u8],
+        p: usize,
+    ) -> Answer
+        ensures { L.called p (L.board_in self.old controller) controller.geometry (C.store block offset bytes.now) ≡ L.outcome_in result self.new }
+    {
+        let Arrays {
+            memory,
+            cache,
+            table,
+        } = self;
+        store_lent(memory, cache, table, controller, block, offset, bytes, p)
+    }
+
+    // The number, and accepted the bytes in `into`.
+    pub fn load(
+        &self,
+        controller: Controller,
+        block: usize,
+        offset: usize,
+        into: &mut [u8],
+    ) -> Number
+        ensures { L.called 0 (L.board_in self.now controller) controller.geometry (C.load block offset (length into.old)) ≡ read_of (L.board_in self.now controller) result into.new }
+    {
+        let g = controller.geometry;
+        load(
+            &self.memory[..lent_memory(g)],
+            &self.cache[..lent_cache(g)],
+            &self.table[..lent_table(g)],
+            controller,
+            block,
+            offset,
+            into,
+        )
+    }
+
+    pub fn begin(&mut self, controller: Controller, registers: &[u8], p: usize) -> Answer
+        ensures outcome { L.called p (L.board_in self.old controller) controller.geometry (C.begin registers.now) ≡ L.outcome_in result self.new }
+        ensures cache { self.new.cache ≡ self.old.cache }
+    {
+        let Arrays {
+            memory,
+            cache,
+            table,
+        } = self;
+        begin_lent(memory, cache, table, controller, registers, p)
+    }
+
+    pub fn step(&mut self, controller: Controller, most: usize, p: usize) -> Answer
+        ensures outcome { L.called p (L.board_in self.old controller) controller.geometry (C.step most) ≡ L.outcome_in result self.new }
+        ensures cache { self.new.cache ≡ self.old.cache }
+        ensures table { self.new.table ≡ self.old.table }
+    {
+        let Arrays {
+            memory,
+            cache,
+            table,
+        } = self;
+        step_lent(memory, cache, table, controller, most, p)
+    }
+
+    pub fn recover(&mut self, controller: Controller) -> Recovery
+        ensures outcome { Recovered (L.called 0 (L.board_in self.old controller) controller.geometry (C.recover controller.geometry)) result self.new.memory self.new.cache self.new.table }
+        ensures memory { self.new.memory ≡ self.old.memory }
+        ensures cache { self.new.cache ≡ self.old.cache }
+    {
+        let Arrays {
+            memory,
+            cache,
+            table,
+        } = self;
+        recover_lent(memory, cache, table, controller)
+    }
 }

@@ -41,13 +41,6 @@ length_one x h = ap length (one_digit x h)
 pub length_more : (x : ℕ) → 10 ≤ x → length (decimal x) ≡ length (decimal (x / 10)) + 1
 length_more x h = ap length (more_digits x h) ∙ length-append (decimal (x / 10)) ((48 + x % 10) ∷ [])
 
-pub some_digit : (x : ℕ) → 1 ≤ length (decimal x)
-some_digit x = go (ltb x 10) refl
-  where
-    go : (b : Bool) → ltb x 10 ≡ b → 1 ≤ length (decimal x)
-    go true e = omega (arith, length_one x (ltb-true x 10 e))
-    go false e = omega (arith, length_more x (ltb-false x 10 e))
-
 pub digits_room : (n x : ℕ) → x < 10 ^ suc n → length (decimal x) ≤ suc n
 digits_room zero x h = omega (arith, length_one x (omega (arith, pow-succ' 10 0, h)))
 digits_room (suc n) x h = go (ltb x 10) refl (digits_room n (x / 10) (omega (arith, pow-succ' 10 (suc n))))
@@ -62,35 +55,67 @@ room_64 x h = digits_room 19 x (omega arith)
 
 -- ---- decimal digits put from the back
 
--- once the digits of rest are put too, from start to place, those of value stand whole
-pub record ToPut (value start : ℕ) (slice slice' : List ℕ) (place rest : ℕ) : Type 0 where
-  pub last : place + 1 ≡ start + length (decimal rest)
-  pub stands : sets slice' start (decimal rest) ≡ sets slice start (decimal value)
+-- as many digits as there are
+all_digits : (n m x : ℕ) → x < m → length (digits m x) ≤ n → digits n x ≡ digits m x
+unfolding digits
+all_digits n zero x h k = absurd (not-suc-le-zero h)
+all_digits zero (suc m) x h k = absurd (not-suc-le-zero (go (ltb x 10) refl k))
+  where
+    go : (b : Bool) → ltb x 10 ≡ b → length (digits (suc m) x) ≤ 0 → 1 ≤ 0
+    go true e k = rw e at k
+    go false e k = omega (arith, simp length-append at (rw e at k))
+all_digits (suc n) (suc m) x h k = go (ltb x 10) refl (λ l j. all_digits n m (x / 10) (omega arith) j) k
+  where
+    go : (b : Bool) → ltb x 10 ≡ b → (10 ≤ x → length (digits m (x / 10)) ≤ n → digits n (x / 10) ≡ digits m (x / 10)) → length (digits (suc m) x) ≤ suc n
+        → digits (suc n) x ≡ digits (suc m) x
+    go true e f k = rw e
+    go false e f k = rw (e, f (ltb-false x 10 e) (omega (arith, simp length-append at (rw e at k))))
 
-pub put_next : {value start place rest : ℕ} {slice slice' : List ℕ} (d : ℕ) → d ≡ 48 + rest % 10 → 10 ≤ rest
-    → ToPut value start slice slice' place rest → ToPut value start slice (set slice' place d) (place - 1) (rest / 10)
-put_next {value} {start} {place} {rest} {slice} {slice'} d e h t =
-    let p : place ≡ start + length (decimal (rest / 10)) = omega (arith, t.last, length_more rest h) in
+-- the last digit behind the others
+last_digit : (n x : ℕ) → length (digits (suc n) x) ≡ suc n → (length (digits n (x / 10)) ≡ n) × (digits (suc n) x ≡ digits n (x / 10) ++ ((48 + x % 10) ∷ []))
+unfolding digits
+last_digit n x h = go (ltb x 10) refl h
+  where
+    one : (n : ℕ) → x < 10 → 1 ≡ suc n → (length (digits n (x / 10)) ≡ n) × ((48 + x) ∷ [] ≡ digits n (x / 10) ++ ((48 + x % 10) ∷ []))
+    one zero l h = (refl, let e : 48 + x ≡ 48 + x % 10 = omega arith in ap (λ (d : ℕ). d ∷ []) e)
+    one (suc n) l h = absurd (omega (arith, h))
+
+    go : (b : Bool) → ltb x 10 ≡ b → length (digits (suc n) x) ≡ suc n
+        → (length (digits n (x / 10)) ≡ n) × (digits (suc n) x ≡ digits n (x / 10) ++ ((48 + x % 10) ∷ []))
+    go true e h = rw e (one n (ltb-true x 10 e) (rw e at h))
+    go false e h = rw e (omega (arith, simp length-append at (rw e at h)), refl)
+
+-- once the digits of rest are put too, so many from start on, those of value stand whole
+pub record ToPut (value start : ℕ) (slice slice' : List ℕ) (left rest : ℕ) : Type 0 where
+  pub count : length (digits left rest) ≡ left
+  pub stands : sets slice' start (digits left rest) ≡ sets slice start (decimal value)
+
+pub put_first : (value start left : ℕ) (slice : List ℕ) → left ≡ length (decimal value) → ToPut value start slice slice left value
+unfolding decimal
+put_first value start left slice e =
+    let all : digits left value ≡ decimal value = all_digits left (suc value) value (omega arith) (omega (arith, e)) in
+    record { count = ap length all ∙ sym e; stands = ap (sets slice start) all }
+
+pub put_next : {value start left rest : ℕ} {slice slice' : List ℕ} (place d : ℕ) → place ≡ start + left → d ≡ 48 + rest % 10
+    → ToPut value start slice slice' (suc left) rest → ToPut value start slice (set slice' place d) left (rest / 10)
+put_next {value} {start} {left} {rest} {slice} {slice'} place d p e t =
+    let before : List ℕ = digits left (rest / 10) in
+    let l = last_digit left rest t.count in
+    let q : place ≡ start + length before = p ∙ ap (λ (n : ℕ). start + n) (sym l.0) in
     record {
-      last = omega (arith, p, some_digit (rest / 10));
-      stands = ap (λ (k : ℕ). sets (set slice' k d) start (decimal (rest / 10))) p
-          ∙ sets_back (decimal (rest / 10)) slice' start d
-          ∙ ap (λ (z : ℕ). sets slice' start (decimal (rest / 10) ++ (z ∷ []))) e
-          ∙ ap (sets slice' start) (sym (more_digits rest h))
+      count = l.0;
+      stands = ap (λ (k : ℕ). sets (set slice' k d) start before) q
+          ∙ sets_back before slice' start d
+          ∙ ap (λ (z : ℕ). sets slice' start (before ++ (z ∷ []))) e
+          ∙ ap (sets slice' start) (sym l.1)
           ∙ t.stands;
     }
 
-pub put_last : {value start place rest r : ℕ} {slice slice' : List ℕ} (d : ℕ) → d ≡ 48 + rest → rest < 10
-    → ToPut value start slice slice' place rest → r ≡ start + length (decimal value) → Puts (decimal value) start slice (set slice' place d) r
-put_last {value} {start} {place} {rest} {r} {slice} {slice'} d e h t a =
-    let p : place ≡ start = omega (arith, t.last, length_one rest h) in
-    record {
-      after = a;
-      stands = ap (λ (k : ℕ). set slice' k d) p
-          ∙ ap (λ (z : ℕ). set slice' start z) e
-          ∙ ap (sets slice' start) (sym (one_digit rest h))
-          ∙ t.stands;
-    }
+pub put_whole : {value start left rest r : ℕ} {slice slice' : List ℕ} → left ≡ 0 → r ≡ start + length (decimal value) → ToPut value start slice slice' left rest
+    → Puts (decimal value) start slice slice' r
+unfolding digits
+put_whole {value} {start} {left} {rest} {r} {slice} {slice'} e a t =
+    record { after = a; stands = ap (λ (n : ℕ). sets slice' start (digits n rest)) (sym e) ∙ t.stands }
 
 -- ---- what the digits are
 

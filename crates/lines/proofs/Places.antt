@@ -1,12 +1,14 @@
--- Bytes put at a place: one after another, in a turn of a loop, from the back, and read as parts of the slice.
+-- Bytes put at a place: one after another, as a part, from the back, and read as parts of the slice.
 use mathlib.Core.Path.{◌≡◌, refl, sym, ap, ◌∙◌}
 use mathlib.Core.List.{List, [], ◌∷◌, ◌++◌}
-use Prim.Native.Nat.{ℕ, suc, ◌+◌, ◌≤◌, ◌<◌}
+use Prim.Native.Nat.{ℕ, suc, ◌+◌, ◌≤◌}
 use native.Mathlib.Omega.{arith}
 use native.Mathlib.Nat.{add-zero}
 use native.Mathlib.Numerals.{add-one}
-use lib.ListN.{length, set, get_or, take, drop, length-append}
-use lib.Seq.{sets, sets-eq, set_comm, take-suc}
+use lib.ListN.{length, set, take, drop, length-append}
+use lib.Seq.{sets, sets-eq, set_comm, take_all}
+use borrow.Rule.Slice.PartMut.{put_mid}
+use Rattle.std.proofs.lemmas.Slice.{put_mid-paste}
 use Rattle.lines.specs.Puts.{Puts}
 
 sets_then : (xs ys slice : List ℕ) (start : ℕ) → sets (sets slice start xs) (start + length xs) ys ≡ sets slice start (xs ++ ys)
@@ -30,18 +32,20 @@ puts_then {xs} {ys} {slice} {slice'} {slice''} {start} {place} {r} a b =
 pub puts_nothing : (slice : List ℕ) (start : ℕ) → Puts [] start slice slice start
 puts_nothing slice start = record { after = sym (add-zero start); stands = refl }
 
-pub puts_one : (slice : List ℕ) (start x : ℕ) → Puts (x ∷ []) start slice (set slice start x) (start + 1)
-puts_one slice start x = record { after = refl; stands = refl }
-
 pub puts_two : (slice : List ℕ) (start x y : ℕ) → Puts (x ∷ (y ∷ [])) start slice (set (set slice start x) (start + 1) y) (start + 2)
 puts_two slice start x y = record { after = refl; stands = rw add-one }
 
--- a turn of a loop that copies
-pub puts_turn : {slice slice' : List ℕ} {start : ℕ} (bytes : List ℕ) (j : ℕ) → j < length bytes → Puts (take j bytes) start slice slice' (start + j)
-    → Puts (take (j + 1) bytes) start slice (set slice' (start + j) (get_or bytes j 0)) (start + (j + 1))
-puts_turn {slice} {slice'} {start} bytes j h p =
-    let e : start + (j + 1) ≡ start + j + 1 = omega arith in
-    rw (e, add-one j, take-suc bytes j 0 h) (puts_then p (puts_one slice' (start + j) (get_or bytes j 0)))
+-- bytes put as a part of the slice
+pub puts_part : (bytes part slice : List ℕ) (start k : ℕ) → part ≡ bytes → k ≡ length bytes → start + length bytes ≤ length slice
+    → Puts bytes start slice (put_mid start k slice part) (start + length bytes)
+puts_part bytes part slice start k p n h =
+    record {
+      after = refl;
+      stands = put_mid-paste start k slice part bytes k p refl n
+          ∙ ap (λ (z : ℕ). take start slice ++ take z bytes ++ drop (start + z) slice) n
+          ∙ ap (λ (z : List ℕ). take start slice ++ z ++ drop (start + length bytes) slice) (take_all (length bytes) bytes (omega arith))
+          ∙ sym (sets-eq bytes slice start h);
+    }
 
 -- the last byte put before the others
 pub sets_back : (xs slice : List ℕ) (start x : ℕ) → sets (set slice (start + length xs) x) start xs ≡ sets slice start (xs ++ (x ∷ []))

@@ -10,15 +10,15 @@ use lib.Dec.{eqb, leb, ltb, leb-zero}
 use lib.ListN.{length, take, drop}
 use borrow.Author.Tests.{lt-ltb, le-ltb, eq-eqb, ne_eqb, eqb-true, leb-false, ltb-true}
 use denote.Ref.{Bor}
+use Rattle.std.specs.Prelude.{Option}
 use Rattle.rules.specs.declared.Geometry.{Geometry}
 use Rattle.rules.specs.declared.Controller.{Controller}
 use Rattle.rules.specs.declared.State.{State}
-use Rattle.rules.specs.declared.Lookup.{Lookup}
-use Rattle.rules.specs.declared.Lookup.TheVariants.{Entry}
+use Rattle.rules.specs.declared.Entry.{Entry}
 use Rattle.rules.specs.declared.Number.{Number}
 use Rattle.rules.specs.declared.Number.TheVariants as No
 use Rattle.rules.specs.Board.{Board, sizes, board_of}
-use Rattle.rules.specs.TableWords.{lookup}
+use Rattle.rules.specs.TableWords.{entry_at, lookup}
 use Rattle.rules.specs.Numbers.{number_of, Check, ◌⇒◌, first_of, allows, common_checks, no_block, out_of_range}
 use Rattle.rules.specs.Power.{carry, guard, Outcome, settle}
 use Rattle.rules.specs.Loads.{spot_of, block_in, visible, seen, load_number, load_plan, peek_number, peek_plan}
@@ -127,20 +127,6 @@ pub peek_checks : (board : Board) (block : ℕ) → first_of (range_checks board
 unfolding peek_number
 peek_checks board block = refl
 
--- n is the number that the checks 1 to 5 gave
-module _ (board : Board) (applies : Bool) {n : Number} (e : n ≡ first_of (common_checks board false)) where
-  pub range_stop : number_of n ≢ 0 → n ≡ first_of (range_checks board applies)
-  range_stop ne = stopped (common_checks board false) ((applies ⇒ No.Range) ∷ []) e ne
-
-  range_on : {r : Number} → number_of n ≡ 0 → r ≡ first_of ((applies ⇒ No.Range) ∷ []) → r ≡ first_of (range_checks board applies)
-  range_on z q = q ∙ sym (common_goes_on board false ((applies ⇒ No.Range) ∷ []) (ap number_of (sym e) ∙ z))
-
-  pub range_hit : number_of n ≡ 0 → applies ≡ true → No.Range ≡ first_of (range_checks board applies)
-  range_hit z q = range_on z (hit [] q)
-
-  pub range_miss : number_of n ≡ 0 → applies ≡ false → No.Done ≡ first_of (range_checks board applies)
-  range_miss z q = range_on z (miss No.Range [] q none_applies)
-
 -- ---- what an accepted load or peek knows
 
 module _ (memory cache table : List ℕ) (controller : Controller) where
@@ -152,51 +138,52 @@ module _ (memory cache table : List ℕ) (controller : Controller) where
       let formed = formed_table (allows controller.phase) controller.geometry table p.0.ready.blocks p.0.formed in
       (p.0.ready, (passed applies No.Range [] (suc-ne-zero 5) p.1).0, formed)
 
-  pub load_passed : (block offset len : ℕ) {n : Number} → n ≡ load_number (board_of memory cache table controller) block offset len → number_of n ≡ 0
+  pub load_passed : (block offset len : ℕ) → number_of (load_number (board_of memory cache table controller) block offset len) ≡ 0
       → Ready controller.geometry memory cache table × InRange (board_of memory cache table controller) block offset len × Formed table
-  load_passed block offset len e z =
+  load_passed block offset len z =
       let board = board_of memory cache table controller in
-      let p = range_passed (out_of_range board block offset len) (ap number_of (load_checks board block offset len ∙ sym e) ∙ z) in
+      let p = range_passed (out_of_range board block offset len) (ap number_of (load_checks board block offset len) ∙ z) in
       (p.0, in_range board block offset len p.1, p.2)
 
-  pub peek_passed : (block : ℕ) {n : Number} → n ≡ peek_number (board_of memory cache table controller) block → number_of n ≡ 0
+  pub peek_passed : (block : ℕ) → number_of (peek_number (board_of memory cache table controller) block) ≡ 0
       → Ready controller.geometry memory cache table × (block < controller.geometry.blocks) × Formed table
   unfolding no_block
-  peek_passed block e z =
+  peek_passed block z =
       let board = board_of memory cache table controller in
-      let p = range_passed (no_block board block) (ap number_of (peek_checks board block ∙ sym e) ∙ z) in
+      let p = range_passed (no_block board block) (ap number_of (peek_checks board block) ∙ z) in
       (p.0, leb-false controller.geometry.blocks block p.1, p.2)
 
 -- ---- what a lookup finds: `look` is its result, `found` the case that the code is in
 
-pub slot_lt : (block slot : ℕ) (table : List ℕ) {state : State} {look : Lookup} → look ≡ lookup block table → look ≡ Entry slot state → slot < length table
+pub slot_lt : (block slot : ℕ) (table : List ℕ) {state : State} {look : Option Entry} → look ≡ lookup block table → look ≡ entry_at slot state → slot < length table
 slot_lt block slot table e q = found_lt (subst (Finds block table) (sym e ∙ q) (finds block table))
 
-pub seen_is : (memory cache table : List ℕ) (controller : Controller) (block : ℕ) {look : Lookup} (found : Lookup) → look ≡ lookup block table → look ≡ found
+pub seen_is : (memory cache table : List ℕ) (controller : Controller) (block : ℕ) {look : Option Entry} (found : Option Entry) → look ≡ lookup block table → look ≡ found
     → seen (board_of memory cache table controller) block ≡ block_in memory cache (spot_of controller.geometry block found)
 unfolding seen visible
-seen_is memory cache table controller block found e q = ap (λ (z : Lookup). block_in memory cache (spot_of controller.geometry block z)) (sym e ∙ q)
+seen_is memory cache table controller block found e q = ap (λ (z : Option Entry). block_in memory cache (spot_of controller.geometry block z)) (sym e ∙ q)
 
 -- ---- the ends of a load
 
-pub load_refused : (board : Board) (block offset : ℕ) (into : List ℕ) {n : Number} → n ≡ load_number board block offset (length into) → number_of n ≢ 0
+pub load_refused : (board : Board) (block offset : ℕ) (into : List ℕ) {n : Number} → (n ≡ load_number board block offset (length into)) × (number_of n ≢ 0)
     → Loaded board block offset into into n
 unfolding filled
-load_refused board block offset into {n} e ne =
+load_refused board block offset into {n} (e, ne) =
     let q = load_is 0 board block offset (length into) in
     record { number = rw q e; bytes = rw (q, ← e, ne_eqb (number_of n) 0 ne) }
 
-pub load_done : (memory cache table : List ℕ) (controller : Controller) (block offset : ℕ) (into into' : List ℕ) {n : Number} {look : Lookup} (found : Lookup)
-    → n ≡ load_number (board_of memory cache table controller) block offset (length into) → number_of n ≡ 0
+pub load_done : (memory cache table : List ℕ) (controller : Controller) (block offset : ℕ) (into into' : List ℕ) {look : Option Entry} (found : Option Entry)
+    → number_of (load_number (board_of memory cache table controller) block offset (length into)) ≡ 0
     → look ≡ lookup block table → look ≡ found
     → into' ≡ take (length into) (drop offset (block_in memory cache (spot_of controller.geometry block found)))
     → Loaded (board_of memory cache table controller) block offset into into' No.Done
 unfolding filled
-load_done memory cache table controller block offset into into' {n} found e z f g h =
-    let q = load_is 0 (board_of memory cache table controller) block offset (length into) in
+load_done memory cache table controller block offset into into' found z f g h =
+    let board = board_of memory cache table controller in
+    let q = load_is 0 board block offset (length into) in
     record {
-      number = rw q (sym (done_is n z) ∙ e);
-      bytes = rw (q, ← e, eq-eqb (number_of n) 0 z, seen_is memory cache table controller block found f g) h;
+      number = rw q (sym (done_is _ z));
+      bytes = rw (q, eq-eqb (number_of (load_number board block offset (length into))) 0 z, seen_is memory cache table controller block found f g) h;
     }
 
 -- ---- the ends of a peek
@@ -214,15 +201,15 @@ peek_size p memory cache table controller block =
     go : (b : Bool) → eqb (number_of (peek_number board block)) 0 ≡ b
         → length (cond (eqb (number_of (peek_number board block)) 0) (seen board block) []) ≡ cond (eqb (number_of (peek_number board block)) 0) 64 0
     go true e =
-        let o = peek_passed memory cache table controller block refl (eqb-true (number_of (peek_number board block)) 0 e) in
+        let o = peek_passed memory cache table controller block (eqb-true (number_of (peek_number board block)) 0 e) in
         rw e (seen-length board (record { memory = o.0.memory; cache = o.0.cache; table = o.0.table }) block o.1)
     go false e = rw e
 
 pub peek_refused : (r memory cache : Bor (List ℕ)) (table : List ℕ) (controller : Controller) (block : ℕ) {n : Number}
-    → n ≡ peek_number (board_of memory.now cache.now table controller) block → number_of n ≢ 0 → PartOf r memory 0 0
+    → (n ≡ peek_number (board_of memory.now cache.now table controller) block) × (number_of n ≢ 0) → PartOf r memory 0 0
     → Peeked r memory cache (board_of memory.now cache.now table controller) block
 unfolding PartIf
-peek_refused r memory cache table controller block {n} e ne p =
+peek_refused r memory cache table controller block {n} (e, ne) p =
     let board = board_of memory.now cache.now table controller in
     let none = ne_eqb (number_of n) 0 ne in
     let given : r.now ≡ (call 0 board (peek block)).gives = rw (peek_is 0 board block, ← e, none) p.bytes in
@@ -232,21 +219,21 @@ peek_refused r memory cache table controller block {n} e ne p =
       size = ap (λ (z : List ℕ). length z) given ∙ peek_size 0 memory.now cache.now table controller block;
     }
 
-pub peek_done : (r memory cache : Bor (List ℕ)) (table : List ℕ) (controller : Controller) (block : ℕ) {n : Number} {look : Lookup} (found : Lookup)
-    → n ≡ peek_number (board_of memory.now cache.now table controller) block → number_of n ≡ 0
+pub peek_done : (r memory cache : Bor (List ℕ)) (table : List ℕ) (controller : Controller) (block : ℕ) {look : Option Entry} (found : Option Entry)
+    → number_of (peek_number (board_of memory.now cache.now table controller) block) ≡ 0
     → look ≡ lookup block table → look ≡ found
     → Shown r memory cache (spot_of controller.geometry block found)
     → Peeked r memory cache (board_of memory.now cache.now table controller) block
 unfolding PartIf
-peek_done r memory cache table controller block {n} found e z f g h =
+peek_done r memory cache table controller block found z f g h =
     let board = board_of memory.now cache.now table controller in
-    let some = eq-eqb (number_of n) 0 z in
+    let some = eq-eqb (number_of (peek_number board block)) 0 z in
     let spot : lookup block table ≡ found = sym f ∙ g in
     let given : r.now ≡ (call 0 board (peek block)).gives =
-    rw (peek_is 0 board block, ← e, some, seen_is memory.now cache.now table controller block found f g)
+    rw (peek_is 0 board block, some, seen_is memory.now cache.now table controller block found f g)
     (shown_bytes r memory cache (spot_of controller.geometry block found) h) in
     record {
       gives = given;
-      part = rw (← e, some, spot) h;
+      part = rw (some, spot) h;
       size = ap (λ (z : List ℕ). length z) given ∙ peek_size 0 memory.now cache.now table controller block;
     }

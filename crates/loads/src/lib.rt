@@ -1,4 +1,5 @@
 // Load, peek and peek's number (document 01, Where a block shows; Numbers returned).
+// What is lent comes one by one, by & or &mut as the call needs it: one value of all of it would ask callers for more.
 #![tactic(auto)]
 
 ghost use Rattle.std.specs.Prelude.{◌≡◌};
@@ -6,9 +7,11 @@ ghost use Rattle.rules.specs.Board.{Board, sizes, board_of};
 ghost use Rattle.rules.specs.Numbers.{no_block, out_of_range};
 ghost use Rattle.rules.specs.Loads.{load_number, peek_number};
 ghost use Rattle.checks.specs.Lent.{Lent};
+ghost use Rattle.checks.specs.Results.{Judged};
 ghost use Rattle.loads.specs.Reading.{Loaded, Peeked};
 
-use rules::{Controller, Geometry, Lookup, Number, Phase};
+use checks::numbers::check_common;
+use rules::{Controller, Geometry, Number, Phase};
 
 // 6 RANGE, of a peek
 pub fn no_block(g: Geometry, block: usize) -> bool
@@ -34,7 +37,7 @@ pub fn out_of_range(g: Geometry, block: usize, offset: usize, len: usize) -> boo
 }
 
 // The checks 1 to 6 of a load, and of a store of as many bytes, by the lent lengths.
-pub fn load_number(
+pub fn check_load(
     memory: usize,
     cache: usize,
     table: &[u64],
@@ -43,20 +46,17 @@ pub fn load_number(
     block: usize,
     offset: usize,
     len: usize,
-) -> Number
-    ensures { (board : Board) → Lent board memory cache table.now g phase → result ≡ load_number board block offset len }
+) -> Result<(), Number>
+    ensures { (board : Board) → Lent board memory cache table.now g phase → Judged (load_number board block offset len) result }
 {
-    let number = checks::numbers::common_number(memory, cache, table, g, phase, false);
-    if !checks::numbers::accepted(number) {
-        return number;
-    }
+    check_common(memory, cache, table, g, phase, false)?;
     if out_of_range(g, block, offset, len) {
-        return Number::Range;
+        return Err(Number::Range);
     }
-    Number::Done
+    Ok(())
 }
 
-// Copies a range of the visible block; refused, it leaves `into` as it was.
+// Copies a range of the visible block; refused, it leaves `into` as it was. It answers a number, DONE among them, as document 01 has it.
 pub fn load(
     memory: &[u8],
     cache: &[u8],
@@ -69,29 +69,45 @@ pub fn load(
     ensures { Loaded (board_of memory.now cache.now table.now controller) block offset into.old into.new result }
 {
     let g = controller.geometry;
-    let phase = controller.phase;
-    let number = load_number(
+    if let Err(number) = check_load(
         memory.len(),
         cache.len(),
         table,
         g,
-        phase,
+        controller.phase,
         block,
         offset,
         into.len(),
-    );
-    if !checks::numbers::accepted(number) {
+    ) {
         return number;
     }
-    let Lookup::Entry { slot, state } = checks::table::lookup(table, block) else {
+    let Some(entry) = checks::table::lookup(table, block) else {
         blocks::copy_home(memory, g, block, offset, into);
         return Number::Done;
     };
-    blocks::copy_entry(memory, cache, g, block, slot, state, offset, into);
+    blocks::copy_entry(memory, cache, g, block, entry, offset, into);
     Number::Done
 }
 
-// The number of a peek on the same inputs: 0 exactly when the part isn't empty.
+// The checks 1 to 6 of a peek.
+fn check_peek(
+    memory: &[u8],
+    cache: &[u8],
+    table: &[u64],
+    controller: Controller,
+    block: usize,
+) -> Result<(), Number>
+    ensures { Judged (peek_number (board_of memory.now cache.now table.now controller) block) result }
+{
+    let g = controller.geometry;
+    check_common(memory.len(), cache.len(), table, g, controller.phase, false)?;
+    if no_block(g, block) {
+        return Err(Number::Range);
+    }
+    Ok(())
+}
+
+// The number of a peek on the same inputs, as document 01 has it: 0 exactly when the part isn't empty.
 pub fn peek_number(
     memory: &[u8],
     cache: &[u8],
@@ -101,16 +117,10 @@ pub fn peek_number(
 ) -> Number
     ensures { result ≡ peek_number (board_of memory.now cache.now table.now controller) block }
 {
-    let g = controller.geometry;
-    let phase = controller.phase;
-    let number = checks::numbers::common_number(memory.len(), cache.len(), table, g, phase, false);
-    if !checks::numbers::accepted(number) {
-        return number;
+    match check_peek(memory, cache, table, controller, block) {
+        Ok(()) => Number::Done,
+        Err(number) => number,
     }
-    if no_block(g, block) {
-        return Number::Range;
-    }
-    Number::Done
 }
 
 // The whole visible block as a part of the memory or CACHE; refused, the empty part of the memory.
@@ -123,13 +133,12 @@ pub fn peek<'a>(
 ) -> &'a [u8]
     ensures { Peeked result memory.entry cache.entry (board_of memory.now cache.now table.now controller) block }
 {
-    let number = peek_number(memory, cache, table, controller, block);
-    if !checks::numbers::accepted(number) {
+    let Ok(()) = check_peek(memory, cache, table, controller, block) else {
         return &memory[0..0];
-    }
+    };
     let g = controller.geometry;
-    let Lookup::Entry { slot, state } = checks::table::lookup(table, block) else {
+    let Some(entry) = checks::table::lookup(table, block) else {
         return blocks::part_home(memory, g, block);
     };
-    blocks::part_entry(memory, cache, g, block, slot, state)
+    blocks::part_entry(memory, cache, g, block, entry)
 }

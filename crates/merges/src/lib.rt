@@ -7,14 +7,22 @@ ghost use Rattle.rules.specs.Stores.{replaced, window_to};
 ghost use Rattle.merges.specs.Ranges.{Next, Opens};
 
 use rules::{Geometry, Window};
-use words::{copy_part, least, put_bytes};
+use words::{copy_part, put_bytes};
+
+// The bytes of a store, and where they begin in the block.
+#[derive(Clone, Copy)]
+pub struct Patch<'a> {
+    pub offset: usize,
+    pub bytes: &'a [u8],
+    ghost inside: { offset + length bytes.now ≤ 64 },
+}
 
 // Eight bytes are all that is held of a block on the way.
 pub fn eight_at(part: &[u8], start: usize) -> [u8; 8]
     requires { start + 8 ≤ length part.now }
     ensures { result ≡ take 8 (drop start part.now) }
 {
-    let mut kept = [0u8; 8];
+    let mut kept = [0; 8];
     copy_part(part, start, &mut kept);
     kept
 }
@@ -35,7 +43,7 @@ pub fn lay_over(kept: &mut [u8], offset: usize, bytes: &[u8])
     copy_part(bytes, 0, &mut kept[offset..end]);
 }
 
-// The visible word with the bytes of the range from `next` up to `stop`, both counted in the block; the word starts at `at`.
+// The visible word with the bytes of a range, which may be of any length, from `next` up to `stop`, both counted in the block; the word starts at `at`.
 pub fn merged_word(
     visible: [u8; 8],
     at: usize,
@@ -61,29 +69,28 @@ pub fn lay_word(
     visible: [u8; 8],
     k: usize,
     next: usize,
-    offset: usize,
-    bytes: &[u8],
+    patch: Patch<'_>,
 ) -> usize
-    requires { (8 * place + 8 ≤ length part.old) × (k < 8) × (offset + length bytes.now ≤ 64) × Next offset (offset + length bytes.now) (8 * k) next }
-    ensures { Next offset (offset + length bytes.now) (8 * k + 8) result × ((block : List ℕ) → length block ≡ 64 → visible ≡ word block k → part.new ≡ put part.old place (word (replaced block offset bytes.now) k)) }
+    requires { (8 * place + 8 ≤ length part.old) × (k < 8) × Next patch.offset (patch.offset + length patch.bytes.now) (8 * k) next }
+    ensures { Next patch.entry.offset (patch.entry.offset + length patch.entry.bytes.now) (8 * k + 8) result × ((block : List ℕ) → length block ≡ 64 → visible ≡ word block k → part.new ≡ put part.old place (word (replaced block patch.entry.offset patch.entry.bytes.now) k)) }
 {
     let at = 8 * k;
     if at + 8 <= next {
         put_word(part, place, visible);
         return next;
     }
-    let end = offset + bytes.len();
+    let end = patch.offset + patch.bytes.len();
     if end <= at + 8 {
-        let last = merged_word(visible, at, next, end, offset, bytes);
+        let last = merged_word(visible, at, next, end, patch.offset, patch.bytes);
         put_word(part, place, last);
         return 64;
     }
     if next == at {
-        let covered = eight_at(bytes, at - offset);
+        let covered = eight_at(patch.bytes, at - patch.offset);
         put_word(part, place, covered);
         return at + 8;
     }
-    let first = merged_word(visible, at, next, at + 8, offset, bytes);
+    let first = merged_word(visible, at, next, at + 8, patch.offset, patch.bytes);
     put_word(part, place, first);
     at + 8
 }
@@ -93,75 +100,64 @@ pub fn merge_within(
     part: &mut [u8],
     from: usize,
     to: usize,
-    offset: usize,
-    bytes: &[u8],
+    patch: Patch<'_>,
     window: Window,
     p: usize,
 ) -> usize
-    requires { (64 * from + 64 ≤ length part.old) × (64 * to + 64 ≤ length part.old) × (offset + length bytes.now ≤ 64) × Opens offset window }
-    ensures { Lays p (window_to to window (replaced (block_at part.old from) offset bytes.now)) part.old part.new result }
+    requires { (64 * from + 64 ≤ length part.old) × (64 * to + 64 ≤ length part.old) × Opens patch.offset window }
+    ensures { Lays p (window_to to window (replaced (block_at part.old from) patch.entry.offset patch.entry.bytes.now)) part.old part.new result }
 {
-    let end = window.first + least(p, window.count);
-    let mut next = offset;
-    let mut k = window.first;
-    while k < end {
+    let end = window.first + p.min(window.count);
+    let mut next = patch.offset;
+    for k in window.first..end {
         let visible = eight_at(part, 64 * from + 8 * k);
-        next = lay_word(part, 8 * to + k, visible, k, next, offset, bytes);
-        k += 1;
+        next = lay_word(part, 8 * to + k, visible, k, next, patch);
     }
     window.count
 }
 
-// The same where it shows in the other lent slice.
+// The same where it shows in the other lent slice. One function of both would take the read as a closure, and promise of each read what the loop has stored by then.
 pub fn merge_across(
     source: &[u8],
     from: usize,
     part: &mut [u8],
     to: usize,
-    offset: usize,
-    bytes: &[u8],
+    patch: Patch<'_>,
     window: Window,
     p: usize,
 ) -> usize
-    requires { (64 * from + 64 ≤ length source.now) × (64 * to + 64 ≤ length part.old) × (offset + length bytes.now ≤ 64) × Opens offset window }
-    ensures { Lays p (window_to to window (replaced (block_at source.now from) offset bytes.now)) part.old part.new result }
+    requires { (64 * from + 64 ≤ length source.now) × (64 * to + 64 ≤ length part.old) × Opens patch.offset window }
+    ensures { Lays p (window_to to window (replaced (block_at source.now from) patch.entry.offset patch.entry.bytes.now)) part.old part.new result }
 {
-    let end = window.first + least(p, window.count);
-    let mut next = offset;
-    let mut k = window.first;
-    while k < end {
+    let end = window.first + p.min(window.count);
+    let mut next = patch.offset;
+    for k in window.first..end {
         let visible = eight_at(source, 64 * from + 8 * k);
-        next = lay_word(part, 8 * to + k, visible, k, next, offset, bytes);
-        k += 1;
+        next = lay_word(part, 8 * to + k, visible, k, next, patch);
     }
     window.count
 }
 
-// A range of 64 bytes is the new block: nothing is read of the visible one.
+// A range of 64 bytes is the new block: nothing is read of the visible one. Word by word, with 8 bytes on the way (document 02, No. 3).
 pub fn lay_whole(part: &mut [u8], to: usize, bytes: &[u8]) -> usize
     requires { (64 * to + 64 ≤ length part.old) × (length bytes.now ≡ 64) }
     ensures { Lays 8 (bytes_to (8 * to) 8 bytes.now) part.old part.new result }
 {
-    let mut k = 0;
-    while k < Geometry::BLOCK_WORDS {
+    for k in 0..Geometry::BLOCK_WORDS {
         let kept = eight_at(bytes, 8 * k);
         put_word(part, 8 * to + k, kept);
-        k += 1;
     }
     Geometry::BLOCK_WORDS
 }
 
-// A block of the slice stored at another place of it as it is (document 02, No. 7).
+// A block of the slice stored at another place of it as it is (document 02, No. 7), with 8 bytes on the way (No. 3), and cut by the allowance.
 pub fn copy_within(part: &mut [u8], from: usize, to: usize, p: usize) -> usize
     requires { (64 * from + 64 ≤ length part.old) × (64 * to + 64 ≤ length part.old) }
     ensures { Lays p (bytes_to (8 * to) 8 (block_at part.old from)) part.old part.new result }
 {
-    let end = least(p, Geometry::BLOCK_WORDS);
-    let mut k = 0;
-    while k < end {
+    for k in 0..p.min(Geometry::BLOCK_WORDS) {
         let kept = eight_at(part, 64 * from + 8 * k);
         put_word(part, 8 * to + k, kept);
-        k += 1;
     }
     Geometry::BLOCK_WORDS
 }

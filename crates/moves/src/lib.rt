@@ -1,13 +1,13 @@
 // The table of stores: where the new block goes, whether all its words are stored, and what becomes of its entry (document 01, Stores; document 02, No. 5).
 #![tactic(auto)]
 
-ghost use Rattle.std.specs.Prelude.{◌≡◌, ℕ};
-ghost use Rattle.rules.specs.declared.Lookup.TheVariants as L;
+ghost use Rattle.std.specs.Prelude.{◌≡◌, ℕ, None};
 ghost use Rattle.rules.specs.declared.Phase.TheVariants as P;
+ghost use Rattle.rules.specs.TableWords.{entry_at};
 ghost use Rattle.rules.specs.Stores.{move_in, stores, is_short};
 ghost use Rattle.moves.specs.Moves.{move_of, short_of};
 
-use rules::{Lookup, Phase, Place, State};
+use rules::{Entry, Phase, Place, State};
 
 pub mod windows;
 
@@ -21,8 +21,9 @@ pub enum Move {
 }
 
 // The column Running, for a block with an entry.
+#[tactic(auto, unfolding(rules::specs::Stores::move_in, rules::specs::Stores::stores, rules::specs::Stores::is_short, rules::specs::Stores::dirty_or_hidden))]
 pub fn move_running(state: State) -> Move
-    ensures { (slot : ℕ) → (move_of result ≡ move_in P.Running (stores (L.Entry slot state))) × (short_of result ≡ is_short P.Running (L.Entry slot state)) }
+    ensures { (slot : ℕ) → (move_of result ≡ move_in P.Running (stores (entry_at slot state))) × (short_of result ≡ is_short P.Running (entry_at slot state)) }
 {
     match state {
         State::Clean => Move::To(Place::Home, State::Hidden),
@@ -34,8 +35,9 @@ pub fn move_running(state: State) -> Move
 }
 
 // The column Writing, for a block with an entry.
+#[tactic(auto, unfolding(rules::specs::Stores::move_in, rules::specs::Stores::stores, rules::specs::Stores::is_short, rules::specs::Stores::dirty_or_hidden))]
 pub fn move_writing(state: State) -> Move
-    ensures { (slot count : ℕ) → (move_of result ≡ move_in (P.Writing count) (stores (L.Entry slot state))) × (short_of result ≡ is_short (P.Writing count) (L.Entry slot state)) }
+    ensures { (slot count : ℕ) → (move_of result ≡ move_in (P.Writing count) (stores (entry_at slot state))) × (short_of result ≡ is_short (P.Writing count) (entry_at slot state)) }
 {
     match state {
         State::Clean => Move::To(Place::Cache, State::PreHidden),
@@ -47,7 +49,7 @@ pub fn move_writing(state: State) -> Move
 }
 
 pub fn move_entry(phase: Phase, state: State) -> Move
-    ensures { (slot : ℕ) → (move_of result ≡ move_in phase (stores (L.Entry slot state))) × (short_of result ≡ is_short phase (L.Entry slot state)) }
+    ensures { (slot : ℕ) → (move_of result ≡ move_in phase (stores (entry_at slot state))) × (short_of result ≡ is_short phase (entry_at slot state)) }
 {
     match phase {
         Phase::Running => move_running(state),
@@ -57,8 +59,9 @@ pub fn move_entry(phase: Phase, state: State) -> Move
 }
 
 // The row of a block without an entry.
+#[tactic(auto, unfolding(rules::specs::Stores::move_in, rules::specs::Stores::stores, rules::specs::Stores::is_short, rules::specs::Stores::dirty_or_hidden))]
 pub fn move_new(phase: Phase) -> Move
-    ensures { (move_of result ≡ move_in phase (stores L.Nothing)) × (short_of result ≡ is_short phase L.Nothing) }
+    ensures { (move_of result ≡ move_in phase (stores None)) × (short_of result ≡ is_short phase None) }
 {
     match phase {
         Phase::Running => Move::To(Place::Checkpoint, State::Dirty),
@@ -68,11 +71,11 @@ pub fn move_new(phase: Phase) -> Move
 }
 
 // The row and the column of a store, by what the lookup found.
-pub fn move_for(phase: Phase, found: Lookup) -> Move
+pub fn move_for(phase: Phase, found: Option<Entry>) -> Move
     ensures { (move_of result ≡ move_in phase (stores found)) × (short_of result ≡ is_short phase found) }
 {
     match found {
-        Lookup::Entry { state, .. } => move_entry(phase, state),
-        Lookup::Nothing => move_new(phase),
+        Some(entry) => move_entry(phase, entry.state),
+        None => move_new(phase),
     }
 }

@@ -12,8 +12,9 @@ use Rattle.words.proofs.Makers.{take-bytes_to}
 use Rattle.words.proofs.Blocks.{length_block}
 use Rattle.rules.specs.declared.Geometry.{Geometry}
 use Rattle.rules.specs.declared.State.{State}
-use Rattle.rules.specs.declared.Lookup.{Lookup}
-use Rattle.rules.specs.declared.Lookup.TheVariants.{Entry, Nothing}
+use Rattle.rules.specs.declared.Entry.{Entry}
+use Rattle.rules.specs.TableWords.{entry_at}
+use Rattle.std.specs.Prelude.{Option, Some, None}
 use Rattle.rules.specs.Loads.{Spot, in_memory, in_cache, shows, spot_in, spot_of, block_in}
 use Rattle.rules.specs.declared.Window.{Window}
 use Rattle.rules.specs.Stores.{replaced, all, touched, window_to}
@@ -103,7 +104,7 @@ pub inside_fits : (g : Geometry) (memory cache : List ℕ) (spot : Spot) → 64 
 inside_fits g memory cache (in_memory q) m c i = omega arith
 inside_fits g memory cache (in_cache q) m c i = omega arith
 
-pub visible_inside : (g : Geometry) (block : ℕ) (found : Lookup) → block < g.blocks → ((slot : ℕ) (state : State) → found ≡ Entry slot state → slot < g.slots) → Inside g (spot_of g block found)
+pub visible_inside : (g : Geometry) (block : ℕ) (found : Option Entry) → block < g.blocks → ((slot : ℕ) (state : State) → found ≡ entry_at slot state → slot < g.slots) → Inside g (spot_of g block found)
 unfolding spot_of spot_in
-visible_inside g block Nothing b s = omega arith
-visible_inside g block (Entry slot state) b s = spot_inside g block slot (shows state) b (s slot state refl)
+visible_inside g block None b s = omega arith
+visible_inside g block (Some entry) b s = spot_inside g block entry.slot (shows entry.state) b (s entry.slot entry.state refl)

@@ -7,17 +7,16 @@ use native.Mathlib.Omega.{arith}
 use lib.ListN.{get_or}
 use Rattle.fields.specs.Fields.{big_endian, field, fields_of}
 use Rattle.records.specs.declared.Record.{Record}
-use Rattle.records.specs.declared.Tested.{Tested}
-use Rattle.records.specs.declared.Found.TheVariants.{Says}
+use Rattle.std.specs.Prelude.{Option, Some}
 use Rattle.records.specs.Records.{flag, perhaps, fields_in, encoded, laid, written, wire_in}
 use Rattle.records.specs.Classes.{first_sheet, class_of}
-use Rattle.records.specs.Reading.{a_record, no_record}
+use Rattle.records.specs.Reading.{says_of, a_record, no_record}
 use Rattle.records.specs.Promises.{OneReading, RoundTrip, FillIsNone}
 use Rattle.records.proofs.Encoding.{record_one}
 
 pub one_reading : OneReading
 unfolding OneReading
-one_reading block r s (a_record one is) (a_record two is') = ap (λ (z : Record). Says (wire_in z) (class_of first_sheet (wire_in z))) (record_one is is')
+one_reading block r s (a_record one is) (a_record two is') = ap (λ (z : Record). Some (says_of (wire_in z) (class_of first_sheet (wire_in z)))) (record_one is is')
 one_reading block r s (a_record one is) (no_record none) = absurd (none one is)
 one_reading block r s (no_record none) (a_record two is') = absurd (none two is')
 one_reading block r s (no_record none) (no_record none') = refl
@@ -27,11 +26,11 @@ unfolding RoundTrip written
 round_trip wire h = a_record (laid wire) (record { two_bytes = h; bytes = refl })
 
 -- the first two bytes of an encoding, 1 and 0, differ
-first : (current : ℕ) (latch : Bool) (test : Tested) → get_or (encoded (record { current = current; latch = latch; test = test })) 0 0 ≡ 1
+first : (current : ℕ) (latch : Bool) (test : Option Bool) → get_or (encoded (record { current = current; latch = latch; test = test })) 0 0 ≡ 1
 unfolding encoded fields_in perhaps flag fields_of field big_endian
 first current latch test = refl
 
-second : (current : ℕ) (latch : Bool) (test : Tested) → get_or (encoded (record { current = current; latch = latch; test = test })) 1 0 ≡ 0
+second : (current : ℕ) (latch : Bool) (test : Option Bool) → get_or (encoded (record { current = current; latch = latch; test = test })) 1 0 ≡ 0
 unfolding encoded fields_in perhaps flag fields_of field big_endian
 second current latch test = refl
 

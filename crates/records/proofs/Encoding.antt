@@ -1,43 +1,31 @@
 -- The encoding of a record: the bytes that the code lays, and that no two records have the same.
 use mathlib.Core.Path.{◌≡◌, refl, sym, ap, ◌∙◌}
 use mathlib.Core.Bool.{Bool, true, false, cond}
-use mathlib.Core.List.{List, [], ◌∷◌, ◌++◌}
-use Prim.Native.Nat.{ℕ, zero, suc, ◌+◌, ◌-◌, ◌≤◌, ◌<◌}
+use mathlib.Core.List.{List, ◌++◌}
+use Prim.Native.Nat.{ℕ, ◌+◌, ◌-◌, ◌≤◌, ◌<◌}
 use native.Mathlib.Omega.{arith}
 use lib.Dec.{eqb}
-use mir.Val.{bool_byte}
 use lib.ListN.{length, drop, replicate, length-append, length-replicate}
+use Rattle.std.proofs.lemmas.List.{drop-replicate}
 use Rattle.lines.specs.Puts.{Puts}
 use Rattle.lines.proofs.Places.{puts_parts}
 use Rattle.fields.specs.Fields.{big_endian, big_number, field, fields_of}
 use Rattle.fields.proofs.Numbers.{number_of_bytes}
 use Rattle.records.specs.declared.Wire.{Wire}
 use Rattle.records.specs.declared.Record.{Record}
-use Rattle.records.specs.declared.Tested.{Tested}
-use Rattle.records.specs.declared.Tested.TheVariants.{Missing, Is}
+use Rattle.std.specs.Prelude.{Option, Some, None}
 use Rattle.records.specs.Records.{flag, perhaps, fields_in, encoded, IsRecord, laid, written}
 use Rattle.records.specs.Supposed.{test_at, supposed}
 
 -- ---- what the code lays
 
-drop-replicate : (n r x : ℕ) → drop r (replicate n x) ≡ replicate (n - r) x
-drop-replicate n zero x = let e : n ≡ n - 0 = omega arith in ap (λ (k : ℕ). replicate k x) e
-drop-replicate zero (suc r) x = let e : 0 ≡ 0 - suc r = omega arith in ap (λ (k : ℕ). replicate k x) e
-drop-replicate (suc n) (suc r) x = let e : n - r ≡ suc n - suc r = omega arith in drop-replicate n r x ∙ ap (λ (k : ℕ). replicate k x) e
-
-fit : (current : ℕ) (latch : Bool) (test : Tested) → length (fields_of (fields_in (record { current = current; latch = latch; test = test }))) ≤ 64
+fit : (current : ℕ) (latch : Bool) (test : Option Bool) → length (fields_of (fields_in (record { current = current; latch = latch; test = test }))) ≤ 64
 unfolding fields_in perhaps flag fields_of field big_endian
-fit current latch Missing = omega arith
-fit current latch (Is test) = omega arith
+fit current latch None = omega arith
+fit current latch (Some test) = omega arith
 
 pub fields_fit : (says : Record) → length (fields_of (fields_in says)) ≤ 64
 fields_fit says = fit says.current says.latch says.test
-
--- a flag's byte
-pub flag_byte : (b : Bool) → bool_byte b ∷ [] ≡ flag b
-unfolding flag
-flag_byte true = refl
-flag_byte false = refl
 
 -- fields put at the start of a block of zeros
 pub puts_encoded : (says : Record) {block : List ℕ} {r : ℕ} → length (fields_of (fields_in says)) ≤ 64
@@ -47,7 +35,7 @@ puts_encoded says {block} {r} h p =
     let size : r ≡ length (fields_of (fields_in says)) = omega (arith, p.after) in
     puts_parts p (omega (arith, h))
     ∙ ap (λ (k : ℕ). fields_of (fields_in says) ++ drop k (replicate 64 0)) size
-    ∙ ap (λ (rest : List ℕ). fields_of (fields_in says) ++ rest) (drop-replicate 64 (length (fields_of (fields_in says))) 0)
+    ∙ ap (λ (rest : List ℕ). fields_of (fields_in says) ++ rest) (drop-replicate (length (fields_of (fields_in says))) 64 0)
 
 pub encoded_whole : (says : Record) → length (encoded says) ≡ 64
 unfolding encoded
@@ -66,15 +54,15 @@ flag_back : (b : Bool) → eqb (cond b 1 0) 1 ≡ b
 flag_back true = refl
 flag_back false = refl
 
-same_record : {current current' : ℕ} {latch latch' : Bool} {test test' : Tested} → current ≡ current' → latch ≡ latch' → test ≡ test'
+same_record : {current current' : ℕ} {latch latch' : Bool} {test test' : Option Bool} → current ≡ current' → latch ≡ latch' → test ≡ test'
     → ◌≡◌ {A = Record} (record { current = current; latch = latch; test = test }) (record { current = current'; latch = latch'; test = test' })
 same_record c l t = cc
 
-read_back : (current : ℕ) (latch : Bool) (test : Tested) → current < 65536
+read_back : (current : ℕ) (latch : Bool) (test : Option Bool) → current < 65536
     → supposed (encoded (record { current = current; latch = latch; test = test })) ≡ record { current = current; latch = latch; test = test }
 unfolding supposed test_at encoded fields_in perhaps flag fields_of field big_endian big_number
-read_back current latch Missing h = same_record (number_of_bytes 2 current h) (flag_back latch) refl
-read_back current latch (Is test) h = same_record (number_of_bytes 2 current h) (flag_back latch) (ap Is (flag_back test))
+read_back current latch None h = same_record (number_of_bytes 2 current h) (flag_back latch) refl
+read_back current latch (Some test) h = same_record (number_of_bytes 2 current h) (flag_back latch) (ap Some (flag_back test))
 
 pub supposed_encoded : (says : Record) → says.current < 65536 → supposed (encoded says) ≡ says
 supposed_encoded says h = read_back says.current says.latch says.test h

@@ -6,15 +6,16 @@ use Prim.Native.Nat.{ℕ, ◌≤◌, ◌<◌}
 use native.Mathlib.Omega.{arith}
 use lib.Dec.{leb}
 use borrow.Author.Tests.{leb-true, leb-false}
+use Rattle.std.proofs.lemmas.Option.{none-some, same_Some}
 use Rattle.words.proofs.Same.{false_is_true}
 use Rattle.records.specs.declared.Wire.{Wire}
 use Rattle.records.specs.declared.Class.{Class}
 use Rattle.records.specs.declared.Class.TheVariants.{Break, Weak, Healthy, Short, Test}
 use Rattle.records.specs.declared.Found.{Found}
-use Rattle.records.specs.declared.Found.TheVariants.{Says, NoRecord}
+use Rattle.std.specs.Prelude.{Option, Some}
 use Rattle.records.specs.Records.{wire_in}
 use Rattle.records.specs.Classes.{Sheet, first_sheet, class_in, class_of}
-use Rattle.records.specs.Reading.{Reads, a_record, no_record}
+use Rattle.records.specs.Reading.{says_of, Reads, a_record, no_record}
 use Rattle.records.specs.Promises.{Breaks, BreakNotHealthy, HealthyIs}
 
 abbrev is_healthy : Class → Bool
@@ -64,17 +65,15 @@ unfolding BreakNotHealthy Breaks
 break_not_healthy sheet wire (inl latched) e = false_is_true (sym (healthy_is sheet wire e).latch ∙ latched)
 break_not_healthy sheet wire (inr low) e = omega (arith, low, (healthy_is sheet wire e).limits.no_break)
 
-none_says : (wire : Wire) (class : Class) → NoRecord ≡ Says wire class → ⊥
-none_says wire class e = let z : ◌≡◌ {A = ℕ} 0 1 = cc in omega arith
-
 pub reads_healthy : HealthyIs
 unfolding HealthyIs
-reads_healthy block wire reads = go (Says wire Healthy) reads refl
+reads_healthy block wire reads = go (Some (says_of wire Healthy)) reads refl
   where
-    go : (r : Found) → Reads block r → r ≡ Says wire Healthy → (wire.latch ≡ false) × (wire.test ≡ false) × (400 ≤ wire.current) × (wire.current ≤ 2000)
+    go : (r : Option Found) → Reads block r → r ≡ Some (says_of wire Healthy) → (wire.latch ≡ false) × (wire.test ≡ false) × (400 ≤ wire.current) × (wire.current ≤ 2000)
     go r (a_record says is) e =
-        let same : wire_in says ≡ wire = cc in
-        let class : class_of first_sheet (wire_in says) ≡ Healthy = cc in
+        let found = same_Some _ _ e in
+        let same : wire_in says ≡ wire = ap (λ (z : Found). z.wire) found in
+        let class : class_of first_sheet (wire_in says) ≡ Healthy = ap (λ (z : Found). z.class) found in
         let h = healthy_is first_sheet wire (ap (class_of first_sheet) (sym same) ∙ class) in
         (h.latch, h.test, omega (arith, h.limits.not_weak), h.limits.not_short)
-    go r (no_record none) e = absurd (none_says wire Healthy e)
+    go r (no_record none) e = absurd (none-some _ e)

@@ -1,5 +1,5 @@
 -- The class of a wire, over the limits of a rule sheet (document 02, No. 1).
-use Rattle.std.specs.Prelude.{cond, ℕ, leb}
+use Rattle.std.specs.Prelude.{cond, List, ℕ, leb, codes}
 use Rattle.records.specs.declared.Wire.{Wire}
 use Rattle.records.specs.declared.Class.{Class}
 use Rattle.records.specs.declared.Class.TheVariants.{Break, Weak, Healthy, Short, Test}
@@ -20,6 +20,14 @@ class_in sheet current =
     (cond (leb current sheet.weak) Weak
     (cond (leb current sheet.healthy) Healthy
     Short))
+
+-- a class by its name
+abbrev pub class_name : Class → List ℕ
+class_name Break = codes "break"
+class_name Weak = codes "weak"
+class_name Healthy = codes "healthy"
+class_name Short = codes "short"
+class_name Test = codes "test"
 
 -- a latch of 1 reads break; else tag 3 at 1 reads test
 unfoldable pub class_of : Sheet → Wire → Class

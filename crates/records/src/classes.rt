@@ -16,6 +16,7 @@ pub fn class_of_current(current: u16) -> Class
     }
 }
 
+#[tactic(auto, unfolding(crate::specs::Classes::class_of))]
 pub fn class_of(wire: Wire) -> Class
     ensures { result ≡ class_of first_sheet wire }
 {

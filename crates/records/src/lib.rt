@@ -1,21 +1,22 @@
 // A wire's record as the bytes of a block: laid, and recognized as the encoding that it is (document 02, No. 1).
 #![tactic(auto)]
 
-ghost use Rattle.std.specs.Prelude.{◌≡◌, true, ◌↔◌, ◌+◌, ◌≤◌, length};
+ghost use Rattle.std.specs.Prelude.{◌≡◌, ◌↔◌, ◌+◌, ◌≤◌, length, Some, IsTrue};
 ghost use Rattle.fields.specs.Fields.{field, fields_of};
 ghost use Rattle.lines.specs.Puts.{Puts};
+ghost use Rattle.records.specs.Classes.{class_name};
 ghost use Rattle.records.specs.Records as R;
 ghost use Rattle.records.specs.Reading.{Reads};
 ghost use Rattle.records.specs.Supposed as S;
 
 use classes::class_of;
 use fields::{put_field, put_number_field, short_of};
-use words::same_bytes;
+use std::fmt;
 
 pub mod classes;
 
 // What a wire's record tells. The types admit no latch or test but 0 and 1.
-#[derive(Clone, Copy)]
+#[derive(Clone, Copy, Debug, PartialEq, Eq)]
 pub struct Wire {
     // in hundredths of a milliampere
     pub current: u16,
@@ -23,22 +24,16 @@ pub struct Wire {
     pub test: bool,
 }
 
-// Tag 3 of a record.
-#[derive(Clone, Copy)]
-pub enum Tested {
-    Missing,
-    Is(bool),
-}
-
 // A record's fields, as they stand in a block.
-#[derive(Clone, Copy)]
+#[derive(Clone, Copy, Debug, PartialEq, Eq)]
 pub struct Record {
     pub current: u16,
     pub latch: bool,
-    pub test: Tested,
+    // tag 3, which may be missing
+    pub test: Option<bool>,
 }
 
-#[derive(Clone, Copy)]
+#[derive(Clone, Copy, Debug, PartialEq, Eq)]
 pub enum Class {
     Break,
     Weak,
@@ -47,31 +42,45 @@ pub enum Class {
     Test,
 }
 
-// What a block reads as.
-#[derive(Clone, Copy)]
-pub enum Found {
-    Says { wire: Wire, class: Class },
-    NoRecord,
+impl fmt::Display for Class {
+    ghost output = { λ class. Some (class_name class) };
+
+    fn fmt<W: fmt::Write>(&self, f: &mut fmt::Formatter<W>) -> fmt::Result {
+        f.write_str(match self {
+            Class::Break => "break",
+            Class::Weak => "weak",
+            Class::Healthy => "healthy",
+            Class::Short => "short",
+            Class::Test => "test",
+        })
+    }
 }
 
+// What a record says, and the class of its wire.
+#[derive(Clone, Copy, Debug, PartialEq, Eq)]
+pub struct Found {
+    pub wire: Wire,
+    pub class: Class,
+}
+
+#[tactic(auto, unfolding(crate::specs::Records::flag))]
 fn put_flag(into: &mut [u8], start: usize, tag: u8, flag: bool) -> usize
     requires { start + 4 ≤ length into.old }
     ensures { Puts (field tag (R.flag flag)) start into.old into.new result }
 {
-    let value = [flag as u8];
-    put_field(into, start, tag, &value)
+    put_field(into, start, tag, &[u8::from(flag)])
 }
 
+#[tactic(auto, using(lines::proofs::Places::puts_then), unfolding(crate::specs::Records::fields_in, crate::specs::Records::perhaps, crate::specs::Records::flag, fields::specs::Fields::fields_of, fields::specs::Fields::field, fields::specs::Fields::big_endian))]
 fn put_fields(into: &mut [u8], says: Record) -> usize
     requires { 13 ≤ length into.old }
     ensures { Puts (fields_of (R.fields_in says)) 0 into.old into.new result }
 {
     let latch_place = put_number_field(into, 0, 1, says.current);
     let test_place = put_flag(into, latch_place, 2, says.latch);
-    let tested = says.test;
-    match tested {
-        Tested::Missing => test_place,
-        Tested::Is(test) => put_flag(into, test_place, 3, test),
+    match says.test {
+        None => test_place,
+        Some(test) => put_flag(into, test_place, 3, test),
     }
 }
 
@@ -85,33 +94,35 @@ fn encoded(says: Record) -> [u8; 64]
 }
 
 // All three fields.
-fn laid(wire: Wire) -> Record
-    ensures { result ≡ R.laid wire }
-{
-    Record {
-        current: wire.current,
-        latch: wire.latch,
-        test: Tested::Is(wire.test),
+impl From<Wire> for Record {
+    ghost from_gives = { λ wire says. says ≡ R.laid wire };
+
+    fn from(wire: Wire) -> Record {
+        Record {
+            current: wire.current,
+            latch: wire.latch,
+            test: Some(wire.test),
+        }
     }
 }
 
 // What the writer lays.
+#[tactic(auto, unfolding(crate::specs::Records::written))]
 pub fn written(wire: Wire) -> [u8; 64]
     ensures { result ≡ R.written wire }
 {
-    encoded(laid(wire))
+    encoded(Record::from(wire))
 }
 
-fn test_at(block: &[u8; 64]) -> Tested
+#[tactic(auto, unfolding(crate::specs::Supposed::test_at))]
+fn test_at(block: &[u8; 64]) -> Option<bool>
     ensures { result ≡ S.test_at block.now }
 {
-    if block[9] == 3 {
-        return Tested::Is(block[12] == 1);
-    }
-    Tested::Missing
+    (block[9] == 3).then_some(block[12] == 1)
 }
 
 // The only record whose encoding the block can be.
+#[tactic(auto, unfolding(crate::specs::Supposed::supposed))]
 fn supposed(block: &[u8; 64]) -> Record
     ensures { result ≡ S.supposed block.now }
 {
@@ -122,38 +133,35 @@ fn supposed(block: &[u8; 64]) -> Record
     }
 }
 
-fn wire_in(says: Record) -> Wire
-    ensures { result ≡ R.wire_in says }
-{
-    let tested = says.test;
-    let test = match tested {
-        Tested::Missing => false,
-        Tested::Is(test) => test,
-    };
-    Wire {
-        current: says.current,
-        latch: says.latch,
-        test: test,
+// A missing tag 3 means 0.
+impl From<Record> for Wire {
+    ghost from_gives = { λ says wire. wire ≡ R.wire_in says };
+
+    fn from(says: Record) -> Wire {
+        Wire {
+            current: says.current,
+            latch: says.latch,
+            test: says.test.unwrap_or(false),
+        }
     }
 }
 
 fn is_encoding(block: &[u8; 64], says: Record) -> bool
-    ensures { (result ≡ true) ↔ (block.now ≡ R.encoded says) }
+    ensures { IsTrue result ↔ (block.now ≡ R.encoded says) }
 {
-    let bytes = encoded(says);
-    same_bytes(block, &bytes, 64)
+    *block == encoded(says)
 }
 
-pub fn read_block(block: &[u8; 64]) -> Found
+pub fn read_block(block: &[u8; 64]) -> Option<Found>
     ensures { Reads block.now result }
 {
     let says = supposed(block);
     if !is_encoding(block, says) {
-        return Found::NoRecord;
+        return None;
     }
-    let wire = wire_in(says);
-    Found::Says {
-        wire: wire,
+    let wire = Wire::from(says);
+    Some(Found {
+        wire,
         class: class_of(wire),
-    }
+    })
 }

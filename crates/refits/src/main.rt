@@ -4,10 +4,10 @@
 use boards::{off, running, stored_board, with_other_sizes, writing};
 use expected::list_words;
 use images::{Image, image_of};
-use panel::{Call, Panel, after};
-use report::{Run, print_heading, print_run, print_summary};
-use std::io::Stdout;
-use stops::{Trial, alike, stopped};
+use panel::{Call, Panel};
+use report::{Run, print_run};
+use std::io;
+use stops::Trial;
 
 mod answers;
 mod boards;
@@ -17,115 +17,88 @@ mod panel;
 mod report;
 mod stops;
 
-#[derive(Clone, Copy)]
+#[derive(Clone, Copy, Default)]
 struct Tally {
     tried: u64,
     wrong: u64,
 }
 
-// One more stop.
-fn counted(tally: Tally, right: bool) -> Tally {
-    let mut wrong = tally.wrong;
-    if !right {
-        wrong = std::num::wrapping_add_u64(wrong, 1);
-    }
-    Tally {
-        tried: std::num::wrapping_add_u64(tally.tried, 1),
-        wrong: wrong,
+impl Tally {
+    // One more stop.
+    fn count(&mut self, right: bool) {
+        self.tried = self.tried.wrapping_add(1);
+        if !right {
+            self.wrong = self.wrong.wrapping_add(1);
+        }
     }
 }
 
-fn print_trial(out: Stdout, trial: Trial, run: Run) {
-    let panel = trial.panel;
-    let controller = panel.controller;
-    let call = trial.call;
-    let phase = controller.phase;
-    print_run(out, call, phase, run);
-}
-
-// The run with one more stop; a run that ends is printed.
-fn joined(out: Stdout, trial: Trial, run: Run, p: usize) -> Run {
-    let before = run.stop;
-    let stop = stopped(trial, p);
-    let first = run.first;
-    if alike(before, stop) {
-        return Run {
-            stop: stop,
-            first: first,
-            last: p,
-        };
-    }
-    print_trial(out, trial, run);
-    Run {
-        stop: stop,
-        first: p,
-        last: p,
-    }
-}
-
-fn right_in(run: Run) -> bool {
-    let stop = run.stop;
-    stop.right
-}
-
-// Every stop of one call.
-fn try_stops(out: Stdout, trial: Trial, tally: Tally) -> Tally {
-    let call = trial.call;
-    let words = list_words(call);
+// Every stop of one call; a run that ends is printed.
+fn try_stops(rt: &impl Print, trial: &Trial, tally: &mut Tally) -> io::Result<()> {
+    let stop = trial.stopped(0);
+    tally.count(stop.right);
     let mut run = Run {
-        stop: stopped(trial, 0),
+        stop,
         first: 0,
         last: 0,
     };
-    let mut counts = counted(tally, right_in(run));
-    let mut p: usize = 0;
-    while p < words {
-        p += 1;
-        run = joined(out, trial, run, p);
-        counts = counted(counts, right_in(run));
+    for p in 1..=list_words(trial.call) {
+        let stop = trial.stopped(p);
+        tally.count(stop.right);
+        if stop == run.stop {
+            run.last = p;
+        } else {
+            print_run(rt, trial, run)?;
+            run = Run {
+                stop,
+                first: p,
+                last: p,
+            };
+        }
     }
-    print_trial(out, trial, run);
-    counts
+    print_run(rt, trial, run)
 }
 
 // A move up from the old form, then a move back from the new.
-fn try_moves(out: Stdout, panel: Panel, before: Image, tally: Tally) -> Tally {
+fn try_moves(rt: &impl Print, panel: Panel, before: Image, tally: &mut Tally) -> io::Result<()> {
     let up = Trial {
-        panel: panel,
+        panel,
         call: Call::MoveUp,
-        before: before,
+        before,
     };
-    let counts = try_stops(out, up, tally);
+    try_stops(rt, &up, tally)?;
     let back = Trial {
-        panel: after(panel, Call::MoveUp),
+        panel: panel.after(Call::MoveUp),
         call: Call::MoveBack,
-        before: before,
+        before,
     };
-    try_stops(out, back, counts)
+    try_stops(rt, &back, tally)
 }
 
-fn try_format(out: Stdout, panel: Panel, before: Image, tally: Tally) -> Tally {
-    let fitted = after(panel, Call::MoveUp);
+fn try_format(rt: &impl Print, panel: Panel, before: Image, tally: &mut Tally) -> io::Result<()> {
     let trial = Trial {
-        panel: with_other_sizes(fitted),
+        panel: with_other_sizes(panel.after(Call::MoveUp)),
         call: Call::Format(136),
-        before: before,
+        before,
     };
-    try_stops(out, trial, tally)
+    try_stops(rt, &trial, tally)
+}
+
+fn run(rt: &impl Print) -> io::Result<()> {
+    let stored = stored_board();
+    let before = image_of(&stored, 7);
+    let first = running(stored);
+    let second = writing(first);
+    println!(rt; "every stop of the moves and of the new format: 3 blocks, 2 slots")?;
+    let mut tally = Tally::default();
+    for panel in [first, second, off(second)] {
+        try_moves(rt, panel, before, &mut tally)?;
+    }
+    try_format(rt, first, before, &mut tally)?;
+    println!(rt; "{} stops tried, {} deviate", tally.tried, tally.wrong)
 }
 
 fn main(rt: HostRuntime) {
-    let out = rt.stdout();
-    let stored = stored_board();
-    let before = image_of(stored, 7);
-    let first = running(stored);
-    let second = writing(first);
-    let third = off(second);
-    print_heading(out);
-    let none = Tally { tried: 0, wrong: 0 };
-    let one = try_moves(out, first, before, none);
-    let two = try_moves(out, second, before, one);
-    let three = try_moves(out, third, before, two);
-    let all = try_format(out, first, before, three);
-    print_summary(out, all.tried, all.wrong);
+    // A write that fails ends the run, and the status stays 0.
+    let _ = run(&rt);
 }

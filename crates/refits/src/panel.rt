@@ -1,8 +1,13 @@
 // A panel with a board of 3 blocks and 2 slots: what it lends to the calls of both stored forms, as one value, so that each stop has a copy of its own.
-ghost use Rattle.std.specs.Prelude.{◌≤◌, length};
+use rules::{Answer, Controller, Geometry, Number, Recovery};
 
-use rules::{Answer, Controller, Geometry, Recovery};
-use words::least;
+pub const SIZES: Geometry = Geometry {
+    blocks: 3,
+    slots: 2,
+};
+
+// The bytes of a memory without the two words after the mark, which the old form's calls and the loads take.
+const OLD_BYTES: usize = 488;
 
 // The memory has the new form's 8N + 10B + 19 = 63 words.
 #[derive(Clone, Copy)]
@@ -19,6 +24,7 @@ pub enum Form {
     New,
 }
 
+// An enum whose matches stay: each call has values of its own, and what must come back differs by call.
 #[derive(Clone, Copy)]
 pub enum Call {
     OldFormat(u8),
@@ -32,118 +38,104 @@ pub enum Call {
     MoveBack,
 }
 
-// What a call gives, and the panel after it.
-#[derive(Clone, Copy)]
-pub struct Done {
-    pub panel: Panel,
-    pub answer: Answer,
-}
-
-#[derive(Clone, Copy)]
-pub struct Reopened {
-    pub panel: Panel,
-    pub recovery: Recovery,
-}
-
-pub fn sizes() -> Geometry {
-    Geometry {
-        blocks: 3,
-        slots: 2,
-    }
-}
-
-// The bytes of a memory without the two words after the mark, which the old form's calls and the loads take.
-pub fn old_end(memory: &[u8]) -> usize
-    ensures { result ≤ length memory.now }
-{
-    least(488, memory.len())
-}
-
 fn act(
-    memory: &mut [u8],
+    memory: &mut [u8; 504],
     cache: &mut [u8],
     table: &mut [u64],
     controller: Controller,
     call: Call,
     p: usize,
 ) -> Answer {
-    let end = old_end(memory);
-    let g = sizes();
     match call {
         Call::OldFormat(fill) => {
-            board::format(&mut memory[0..end], cache, table, controller, g, fill, p)
+            let old = &mut memory[..OLD_BYTES];
+            board::format(old, cache, table, controller, SIZES, fill, p)
         }
         Call::Store(block, byte) => {
-            let bytes = [byte; 5];
-            let part = &mut memory[0..end];
-            board::store(part, cache, table, controller, block, 30, &bytes, p)
+            let old = &mut memory[..OLD_BYTES];
+            board::store(old, cache, table, controller, block, 30, &[byte; 5], p)
         }
         Call::Begin(byte) => {
-            let registers = [byte; 64];
-            board::begin(&mut memory[0..end], cache, table, controller, &registers, p)
+            let old = &mut memory[..OLD_BYTES];
+            board::begin(old, cache, table, controller, &[byte; 64], p)
         }
-        Call::Step(most) => board::step(&mut memory[0..end], cache, table, controller, most, p),
-        Call::Format(fill) => header::format(memory, cache, table, controller, g, fill, p),
-        Call::MoveUp => header::move_up(memory, cache, table, controller, g, p),
-        Call::MoveBack => header::move_back(memory, cache, table, controller, g, p),
+        Call::Step(most) => {
+            let old = &mut memory[..OLD_BYTES];
+            board::step(old, cache, table, controller, most, p)
+        }
+        Call::Format(fill) => header::format(memory, cache, table, controller, SIZES, fill, p),
+        Call::MoveUp => header::move_up(memory, cache, table, controller, SIZES, p),
+        Call::MoveBack => header::move_back(memory, cache, table, controller, SIZES, p),
     }
 }
 
-// The call with an allowance.
-pub fn acted(panel: Panel, call: Call, p: usize) -> Done {
-    let mut memory = panel.memory;
-    let mut cache = panel.cache;
-    let mut table = panel.table;
-    let controller = panel.controller;
-    let answer = act(&mut memory, &mut cache, &mut table, controller, call, p);
-    let after = answer.controller;
-    Done {
-        panel: Panel {
-            memory: memory,
-            cache: cache,
-            table: table,
-            controller: after,
-        },
-        answer: answer,
+impl Panel {
+    // The call with an allowance. A proof lends one field of a reference at a time, so the fields go into variables.
+    pub fn act(&mut self, call: Call, p: usize) -> Answer {
+        let Panel {
+            mut memory,
+            mut cache,
+            mut table,
+            controller,
+        } = *self;
+        let answer = act(&mut memory, &mut cache, &mut table, controller, call, p);
+        *self = Panel {
+            memory,
+            cache,
+            table,
+            controller: answer.controller,
+        };
+        answer
     }
-}
 
-// The panel after a call that nothing stops.
-pub fn after(panel: Panel, call: Call) -> Panel {
-    let done = acted(panel, call, usize::MAX);
-    done.panel
-}
-
-fn recover(
-    memory: &[u8],
-    cache: &[u8],
-    table: &mut [u64],
-    controller: Controller,
-    form: Form,
-) -> Recovery {
-    let end = old_end(memory);
-    let g = sizes();
-    match form {
-        Form::Old => board::recover(&memory[0..end], cache, table, controller, g),
-        Form::New => header::recover(memory, cache, table, controller, g),
+    // The panel after a call that nothing stops.
+    pub fn after(self, call: Call) -> Panel {
+        let mut panel = self;
+        panel.act(call, usize::MAX);
+        panel
     }
-}
 
-pub fn recovered(panel: Panel, form: Form) -> Reopened {
-    let memory = panel.memory;
-    let cache = panel.cache;
-    let mut table = panel.table;
-    let controller = panel.controller;
-    let recovery = recover(&memory, &cache, &mut table, controller, form);
-    let answer = recovery.answer;
-    let back = answer.controller;
-    Reopened {
-        panel: Panel {
-            memory: memory,
-            cache: cache,
-            table: table,
-            controller: back,
-        },
-        recovery: recovery,
+    pub fn recover(&mut self, form: Form) -> Recovery {
+        let controller = self.controller;
+        let recovery = match form {
+            Form::Old => {
+                let old = &self.memory[..OLD_BYTES];
+                board::recover(old, &self.cache, &mut self.table, controller, SIZES)
+            }
+            Form::New => {
+                let table = &mut self.table;
+                header::recover(&self.memory, &self.cache, table, controller, SIZES)
+            }
+        };
+        self.controller = recovery.answer.controller;
+        recovery
+    }
+
+    fn load(&self, block: usize, into: &mut [u8]) -> Number {
+        let old = self.old_memory();
+        board::load(
+            old,
+            &self.cache,
+            &self.table,
+            self.controller,
+            block,
+            0,
+            into,
+        )
+    }
+
+    // The blocks as loads give them, or None where one is refused.
+    pub fn blocks(&self) -> Option<[[u8; 64]; 3]> {
+        let mut blocks = [[0u8; 64]; 3];
+        for (block, into) in blocks.iter_mut().enumerate() {
+            if self.load(block, into) != Number::Done {
+                return None;
+            }
+        }
+        Some(blocks)
+    }
+
+    pub fn old_memory(&self) -> &[u8] {
+        &self.memory[..OLD_BYTES]
     }
 }

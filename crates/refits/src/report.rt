@@ -1,9 +1,8 @@
-// What the program prints: a heading, a line for each run of stops that came back alike, and the summary.
-use crate::expected::{Came, same_came};
+// What the program prints of a call's stops: a line for each run of stops that came back alike.
 use crate::panel::Call;
-use crate::stops::Stop;
+use crate::stops::{Stop, Trial};
 use rules::Phase;
-use std::io::Stdout;
+use std::{fmt, io};
 
 // Stops in a row that came back alike.
 #[derive(Clone, Copy)]
@@ -13,86 +12,54 @@ pub struct Run {
     pub last: usize,
 }
 
-fn text(out: Stdout, bytes: &[u8]) {
-    streams::write_all(out, bytes);
-}
-
-fn decimal(out: Stdout, value: u64) {
-    streams::print_decimal(out, value);
-}
-
-pub fn print_heading(out: Stdout) {
-    text(
-        out,
-        b"every stop of the moves and of the new format: 3 blocks, 2 slots\n",
-    );
-}
-
-fn print_call(out: Stdout, call: Call) {
-    match call {
-        Call::MoveUp => text(out, b"move up, "),
-        Call::MoveBack => text(out, b"move back, "),
-        _ => text(out, b"format, "),
+impl fmt::Display for Call {
+    fn fmt<W: fmt::Write>(&self, f: &mut fmt::Formatter<W>) -> fmt::Result {
+        f.write_str(match self {
+            Call::OldFormat(_) => "old format",
+            Call::Store(_, _) => "store",
+            Call::Begin(_) => "begin",
+            Call::Step(_) => "step",
+            Call::Format(_) => "format",
+            Call::MoveUp => "move up",
+            Call::MoveBack => "move back",
+        })
     }
 }
 
-fn print_phase(out: Stdout, phase: Phase) {
+// A function, since Display of another crate's Phase isn't this crate's to write.
+fn phase_name(phase: Phase) -> &'static str {
     match phase {
-        Phase::Running => text(out, b"Running, "),
-        Phase::Writing(_) => text(out, b"Writing, "),
-        Phase::Off => text(out, b"Off, "),
+        Phase::Running => "Running",
+        Phase::Writing(_) => "Writing",
+        Phase::Off => "Off",
     }
 }
 
-fn print_came(out: Stdout, came: Came) {
-    match came {
-        Came::Before => text(out, b"image of before"),
-        Came::Formatted => text(out, b"formatted image"),
-        Came::Other => text(out, b"another image"),
-        Came::Refused(number) => decimal(out, number),
+impl fmt::Display for Stop {
+    fn fmt<W: fmt::Write>(&self, f: &mut fmt::Formatter<W>) -> fmt::Result {
+        if self.old == self.new {
+            write!(f, "both forms {}", self.new)?;
+        } else {
+            write!(f, "old form {}, new form {}", self.old, self.new)?;
+        }
+        if !self.right {
+            write!(f, ": WRONG")?;
+        }
+        Ok(())
     }
 }
 
-fn print_places(out: Stdout, first: usize, last: usize) {
-    if first == last {
-        text(out, b"stop ");
-        return decimal(out, first as u64);
+impl fmt::Display for Run {
+    fn fmt<W: fmt::Write>(&self, f: &mut fmt::Formatter<W>) -> fmt::Result {
+        if self.first == self.last {
+            write!(f, "stop {}: {}", self.first, self.stop)
+        } else {
+            write!(f, "stops {}-{}: {}", self.first, self.last, self.stop)
+        }
     }
-    text(out, b"stops ");
-    decimal(out, first as u64);
-    text(out, b"-");
-    decimal(out, last as u64);
 }
 
-fn print_stop(out: Stdout, stop: Stop) {
-    let old = stop.old;
-    let new = stop.new;
-    if same_came(old, new) {
-        text(out, b": both forms ");
-        print_came(out, new);
-    } else {
-        text(out, b": old form ");
-        print_came(out, old);
-        text(out, b", new form ");
-        print_came(out, new);
-    }
-    if !stop.right {
-        text(out, b": WRONG");
-    }
-    text(out, b"\n");
-}
-
-pub fn print_run(out: Stdout, call: Call, phase: Phase, run: Run) {
-    let stop = run.stop;
-    print_call(out, call);
-    print_phase(out, phase);
-    print_places(out, run.first, run.last);
-    print_stop(out, stop);
-}
-
-pub fn print_summary(out: Stdout, tried: u64, wrong: u64) {
-    decimal(out, tried);
-    text(out, b" stops tried, ");
-    decimal(out, wrong);
-    text(out, b" deviate\n");
+pub fn print_run(rt: &impl Print, trial: &Trial, run: Run) -> io::Result<()> {
+    let phase = phase_name(trial.panel.controller.phase);
+    println!(rt; "{}, {phase}, {run}", trial.call)
 }

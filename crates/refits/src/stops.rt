@@ -1,10 +1,9 @@
 // A loss of supply inside a move or a format, on a copy of the panel, and a recovery in each form after it.
 use crate::answers::answer_right;
-use crate::expected::{Came, new_expected, old_expected, same_came};
+use crate::expected::{Came, expected};
 use crate::images::{Image, formatted_image, reads_as};
-use crate::panel::{Call, Form, Panel, acted, recovered};
-use checks::numbers::{accepted, number_of};
-use rules::{Backup, Controller, Geometry, Phase};
+use crate::panel::{Call, Form, Panel};
+use rules::{Backup, Controller, Geometry, Number, Phase};
 
 // A call to stop, the panel that it is made on, and the image of the last finished checkpoint there.
 #[derive(Clone, Copy)]
@@ -14,8 +13,8 @@ pub struct Trial {
     pub before: Image,
 }
 
-// What both forms give after a stop, and whether that and the call's own answer are right.
-#[derive(Clone, Copy)]
+// What both forms give after a stop, and whether that and the call's own answer are right: all three are always there.
+#[derive(Clone, Copy, PartialEq, Eq)]
 pub struct Stop {
     pub old: Came,
     pub new: Came,
@@ -24,9 +23,7 @@ pub struct Stop {
 
 // Everything volatile is lost: CACHE, the table and the record are garbage.
 fn lost(panel: Panel) -> Panel {
-    let memory = panel.memory;
     Panel {
-        memory: memory,
         cache: [165u8; 128],
         table: [42405u64; 2],
         controller: Controller {
@@ -38,6 +35,7 @@ fn lost(panel: Panel) -> Panel {
             finished: Backup::A,
             phase: Phase::Writing(42405),
         },
+        ..panel
     }
 }
 
@@ -48,46 +46,31 @@ fn fill_of(call: Call) -> u8 {
     }
 }
 
-fn came_back(panel: Panel, form: Form, before: Image, call: Call) -> Came {
-    let back = recovered(lost(panel), form);
-    let recovery = back.recovery;
-    let answer = recovery.answer;
-    let number = answer.number;
-    if !accepted(number) {
-        return Came::Refused(number_of(number));
+impl Trial {
+    fn came_back(&self, left: Panel, form: Form) -> Came {
+        let mut panel = lost(left);
+        let recovery = panel.recover(form);
+        let number = recovery.answer.number;
+        if number != Number::Done {
+            Came::Refused(number)
+        } else if reads_as(&panel, recovery, &self.before) {
+            Came::Before
+        } else if reads_as(&panel, recovery, &formatted_image(fill_of(self.call))) {
+            Came::Formatted
+        } else {
+            Came::Other
+        }
     }
-    if reads_as(back, before) {
-        return Came::Before;
-    }
-    if reads_as(back, formatted_image(fill_of(call))) {
-        return Came::Formatted;
-    }
-    Came::Other
-}
 
-// The supply stops after p words of the call's list, and the board recovers in each form.
-pub fn stopped(trial: Trial, p: usize) -> Stop {
-    let panel = trial.panel;
-    let call = trial.call;
-    let before = trial.before;
-    let done = acted(panel, call, p);
-    let left = done.panel;
-    let old = came_back(left, Form::Old, before, call);
-    let new = came_back(left, Form::New, before, call);
-    let right = answer_right(call, panel, done, p)
-        & same_came(old, old_expected(call, p))
-        & same_came(new, new_expected(call, p));
-    Stop {
-        old: old,
-        new: new,
-        right: right,
+    // The supply stops after p words of the call's list, and the board recovers in each form.
+    pub fn stopped(&self, p: usize) -> Stop {
+        let mut left = self.panel;
+        let answer = left.act(self.call, p);
+        let old = self.came_back(left, Form::Old);
+        let new = self.came_back(left, Form::New);
+        let right = answer_right(self.call, &self.panel, &left, answer, p)
+            && old == expected(self.call, Form::Old, p)
+            && new == expected(self.call, Form::New, p);
+        Stop { old, new, right }
     }
-}
-
-pub fn alike(one: Stop, other: Stop) -> bool {
-    let one_old = one.old;
-    let one_new = one.new;
-    let other_old = other.old;
-    let other_new = other.new;
-    same_came(one_old, other_old) & same_came(one_new, other_new) & (one.right == other.right)
 }

@@ -2,33 +2,32 @@
 use mathlib.Core.Path.{◌≡◌, refl, sym, ap, ◌∙◌}
 use mathlib.Core.Bool.{Bool, true}
 use mathlib.Core.List.{List, [], ◌∷◌, map}
-use mathlib.Core.Option.{Option, none, some}
 use Prim.Native.Nat.{ℕ, zero, suc, ◌<◌}
 use native.Mathlib.Omega.{arith}
 use lib.ListN.{get_or-map, length, get_or, set}
+use Rattle.std.specs.Prelude.{Option, Some, None}
 use Rattle.words.proofs.All.{All, done, also}
 use Rattle.rules.specs.declared.State.{State}
-use Rattle.rules.specs.declared.Lookup.{Lookup}
-use Rattle.rules.specs.declared.Lookup.TheVariants.{Entry, Nothing}
-use Rattle.rules.specs.TableWords.{Says, free, names, neither, says, entry_or, changed_by, changed, every}
+use Rattle.rules.specs.declared.Entry.{Entry}
+use Rattle.rules.specs.TableWords.{entry_at, Says, free, names, neither, says, entry_or, changed_by, changed, every}
 use Rattle.rules.proofs.Clashes.{free_names, and_left, and_right}
 use Rattle.rules.proofs.TableWordLaws.{says_word, says_zero}
 use Rattle.rules.proofs.Finding.{Skips, skip_free, Finds, end, top, deep, pass}
 use Rattle.rules.proofs.Apart.{Apart, empty, onto}
 
 -- what a lookup finds after the change
-unfoldable pub found_or : ℕ → Option State → Lookup
-found_or slot none = Nothing
-found_or slot (some state) = Entry slot state
+unfoldable pub found_or : ℕ → Option State → Option Entry
+found_or slot None = None
+found_or slot (Some state) = entry_at slot state
 
-unfoldable pub found : (State → Option State) → Lookup → Lookup
+unfoldable pub found : (State → Option State) → Option Entry → Option Entry
 unfolding found_or
-found next (Entry slot state) = found_or slot (next state)
-found next Nothing = Nothing
+found next (Some entry) = found_or entry.slot (next entry.state)
+found next None = None
 
 unfoldable pub says_or : ℕ → Option State → Says
-says_or block none = free
-says_or block (some state) = names block state
+says_or block None = free
+says_or block (Some state) = names block state
 
 module _ (next : State → Option State) where
   -- an entry that is changed says its block and its next state, or that it is free
@@ -37,8 +36,8 @@ module _ (next : State → Option State) where
   changed_names word block state e = ap (λ (x : Says). says (changed_by next x)) e ∙ go (next state)
     where
       go : (o : Option State) → says (entry_or block o) ≡ says_or block o
-      go none = refl
-      go (some s) = says_word block s
+      go None = refl
+      go (Some s) = says_word block s
 
   -- and so an entry after the change was an entry for its block before
   changed_back : (word block : ℕ) (state : State) → says (changed next word) ≡ names block state → (before : State) × (says word ≡ names block before)
@@ -46,8 +45,8 @@ module _ (next : State → Option State) where
   changed_back word block state e = go (says word) refl
     where
       same : (k : ℕ) (o : Option State) → says_or k o ≡ names block state → k ≡ block
-      same k none q = absurd (free_names block state q)
-      same k (some s) q = cc
+      same k None q = absurd (free_names block state q)
+      same k (Some s) q = cc
 
       go : (x : Says) → says word ≡ x → (before : State) × (says word ≡ names block before)
       go free q = absurd (free_names block state (sym says_zero ∙ ap (λ (x : Says). says (changed_by next x)) (sym q) ∙ e))
@@ -57,22 +56,22 @@ module _ (next : State → Option State) where
   changed_skip : (block word : ℕ) → Skips block word → Skips block (changed next word)
   changed_skip block word s = record { never = λ state e. let b = changed_back word block state e in s.never b.0 b.1 }
 
-  pub changed_finds : {block : ℕ} {table : List ℕ} {r : Lookup} → Apart table → Finds block table r → Finds block (map (changed next) table) (found next r)
+  pub changed_finds : {block : ℕ} {table : List ℕ} {r : Option Entry} → Apart table → Finds block table r → Finds block (map (changed next) table) (found next r)
   unfolding found found_or says_or
   changed_finds empty end = end
   changed_finds {block} (onto {table = table} u a) (top {word = word} {state = state} e) =
       go (next state) (changed_names word block state e) (changed_finds a (u block state e))
     where
-      go : (o : Option State) → says (changed next word) ≡ says_or block o → Finds block (map (changed next) table) Nothing
+      go : (o : Option State) → says (changed next word) ≡ says_or block o → Finds block (map (changed next) table) None
           → Finds block (changed next word ∷ map (changed next) table) (found_or 0 o)
-      go none q r = pass (skip_free block (changed next word) q) r
-      go (some s) q r = top q
+      go None q r = pass (skip_free block (changed next word) q) r
+      go (Some s) q r = top q
   changed_finds {block} (onto {table = table} u a) (deep {word = word} {slot = slot} {state = state} s r) = go (next state) (changed_finds a r)
     where
       go : (o : Option State) → Finds block (map (changed next) table) (found_or slot o)
           → Finds block (changed next word ∷ map (changed next) table) (found_or (suc slot) o)
-      go none r' = pass (changed_skip block word s) r'
-      go (some d) r' = deep (changed_skip block word s) r'
+      go None r' = pass (changed_skip block word s) r'
+      go (Some d) r' = deep (changed_skip block word s) r'
   changed_finds {block} (onto u a) (pass {word = word} s r) = pass (changed_skip block word s) (changed_finds a r)
 
   pub changed_apart : {table : List ℕ} → Apart table → Apart (map (changed next) table)

@@ -2,20 +2,22 @@
 use mathlib.Core.Path.{◌≡◌, refl, sym}
 use mathlib.Core.Logic.{◌⊎◌, inl, inr}
 use mathlib.Core.Bool.{Bool, true, false, ◌&&◌, ◌||◌}
-use mathlib.Core.Option.{none, some}
 use Prim.Native.Nat.{ℕ}
 use native.Mathlib.Omega.{arith}
+use Rattle.std.specs.Prelude.{Some, None}
 use Rattle.rules.specs.declared.State.{State}
-use Rattle.rules.specs.declared.Lookup.TheVariants.{Entry, Nothing}
-use Rattle.rules.specs.TableWords.{free, names, neither}
+use Rattle.rules.specs.TableWords.{entry_at, free, names, neither}
 
 pub false_true : false ≡ true → ⊥
 false_true e = let z : ◌≡◌ {A = ℕ} 0 1 = cc in omega arith
 
-pub none_some : {A : Type 0} (x : A) → none ≡ some x → ⊥
+pub none_some : {A : Type 0} (x : A) → None ≡ Some x → ⊥
 none_some x e = let z : ◌≡◌ {A = ℕ} 0 1 = cc in omega arith
 
-pub nothing_entry : (slot : ℕ) (state : State) → Nothing ≡ Entry slot state → ⊥
+pub none_slot : (slot : ℕ) → None ≡ Some slot → ⊥
+none_slot slot e = let z : ◌≡◌ {A = ℕ} 0 1 = cc in omega arith
+
+pub nothing_entry : (slot : ℕ) (state : State) → None ≡ entry_at slot state → ⊥
 nothing_entry slot state e = let z : ◌≡◌ {A = ℕ} 0 1 = cc in omega arith
 
 pub free_names : (block : ℕ) (state : State) → free ≡ names block state → ⊥

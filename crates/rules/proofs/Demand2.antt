@@ -2,7 +2,7 @@
 use mathlib.Core.Path.{◌≡◌, refl, sym, ap, ◌∙◌, subst}
 use mathlib.Core.Bool.{Bool, true, false, cond}
 use mathlib.Core.List.{List, [], ◌∷◌}
-use mathlib.Core.Option.{Option, none, some}
+use Rattle.std.specs.Prelude.{Option, None, Some}
 use Prim.Native.Nat.{ℕ}
 use lib.Dec.{eqb}
 use borrow.Author.Tests.{eqb-true, eqb-false}
@@ -30,8 +30,8 @@ use Rattle.rules.proofs.Demand3.{call_keeps, noted, lost, stop_recovers, back, n
 
 -- nothing is promised, or the board looks like the plain machine
 pub data Stands (board : Board) : Option Plain → Type 0 where
-  unpromised : Stands board none
-  standing_by : {plain : Plain} → Inv board plain → Stands board (some plain)
+  unpromised : Stands board None
+  standing_by : {plain : Plain} → Inv board plain → Stands board (Some plain)
 
 -- ---- a format, accepted, refused or cut
 
@@ -46,7 +46,7 @@ format_stands p board was s g fill = go (eqb n 0) refl (eqb n 20) refl
     n : ℕ
     n = number_of o.number
 
-    go : (a : Bool) → eqb n 0 ≡ a → (b : Bool) → eqb n 20 ≡ b → Stands o.board (cond a (some (formatted fill)) (cond b none was))
+    go : (a : Bool) → eqb n 0 ≡ a → (b : Bool) → eqb n 20 ≡ b → Stands o.board (cond a (Some (formatted fill)) (cond b None was))
     go true e b f = standing_by (format_inv g fill p board (eqb-true n 0 e)).0
     go false e true f = unpromised
     go false e false f = subst (λ (z : Board). Stands z was) (sym (refused p board (format g fill) (eqb-false n 0 e) (eqb-false n 20 f)).same) s
@@ -60,7 +60,7 @@ module _ (p : ℕ) (board : Board) where
   abbrev after : Option Plain → Call → Option Plain
   after was c = promised (sizes board) was c (call p board c) (stored p (plan board c))
 
-  noted_stands : (plain : Plain) → Inv board plain → (c : Call) → NoFormat c → Stands (outcome c).board (after (some plain) c)
+  noted_stands : (plain : Plain) → Inv board plain → (c : Call) → NoFormat c → Stands (outcome c).board (after (Some plain) c)
   unfolding promised call
   noted_stands plain v c nf =
       subst (Stands (outcome c).board) (sym (noted (sizes board) plain c (number_of (outcome c).number) (stored p (plan board c)) nf))
@@ -71,32 +71,32 @@ module _ (p : ℕ) (board : Board) where
   recover_stands g = go (eqb (number_of (outcome (recover g)).number) 0) refl
     where
       found : number_of (outcome (recover g)).number ≡ 0 → (o : Option Plain) → opened g (outcome (recover g)).board.memory ≡ o → Stands (outcome (recover g)).board o
-      found e none q = unpromised
-      found e (some plain) q = standing_by (opened_inv g p board e plain q)
+      found e None q = unpromised
+      found e (Some plain) q = standing_by (opened_inv g p board e plain q)
 
       go : (a : Bool) → eqb (number_of (outcome (recover g)).number) 0 ≡ a
-          → Stands (outcome (recover g)).board (cond a (opened g (outcome (recover g)).board.memory) none)
+          → Stands (outcome (recover g)).board (cond a (opened g (outcome (recover g)).board.memory) None)
       go true e = found (eqb-true (number_of (outcome (recover g)).number) 0 e) (opened g (outcome (recover g)).board.memory) refl
       go false e = unpromised
 
   call_stands : (was : Option Plain) → Stands board was → (c : Call) → Stands (outcome c).board (after was c)
   unfolding promised from_none from_some
-  call_stands none unpromised (load block offset len) = unpromised
-  call_stands none unpromised (peek block) = unpromised
-  call_stands none unpromised (store block offset bytes) = unpromised
-  call_stands none unpromised (begin registers) = unpromised
-  call_stands none unpromised (step n) = unpromised
-  call_stands none unpromised (format g fill) = format_stands p board none unpromised g fill
-  call_stands none unpromised (recover g) = recover_stands g
-  call_stands none unpromised (sweep limit) = unpromised
-  call_stands (some plain) (standing_by v) (load block offset len) = noted_stands plain v (load block offset len) a_load
-  call_stands (some plain) (standing_by v) (peek block) = noted_stands plain v (peek block) a_peek
-  call_stands (some plain) (standing_by v) (store block offset bytes) = noted_stands plain v (store block offset bytes) a_store
-  call_stands (some plain) (standing_by v) (begin registers) = noted_stands plain v (begin registers) a_begin
-  call_stands (some plain) (standing_by v) (step n) = noted_stands plain v (step n) a_step
-  call_stands (some plain) (standing_by v) (format g fill) = format_stands p board (some plain) (standing_by v) g fill
-  call_stands (some plain) (standing_by v) (recover g) = noted_stands plain v (recover g) a_recover
-  call_stands (some plain) (standing_by v) (sweep limit) = noted_stands plain v (sweep limit) a_sweep
+  call_stands None unpromised (load block offset len) = unpromised
+  call_stands None unpromised (peek block) = unpromised
+  call_stands None unpromised (store block offset bytes) = unpromised
+  call_stands None unpromised (begin registers) = unpromised
+  call_stands None unpromised (step n) = unpromised
+  call_stands None unpromised (format g fill) = format_stands p board None unpromised g fill
+  call_stands None unpromised (recover g) = recover_stands g
+  call_stands None unpromised (sweep limit) = unpromised
+  call_stands (Some plain) (standing_by v) (load block offset len) = noted_stands plain v (load block offset len) a_load
+  call_stands (Some plain) (standing_by v) (peek block) = noted_stands plain v (peek block) a_peek
+  call_stands (Some plain) (standing_by v) (store block offset bytes) = noted_stands plain v (store block offset bytes) a_store
+  call_stands (Some plain) (standing_by v) (begin registers) = noted_stands plain v (begin registers) a_begin
+  call_stands (Some plain) (standing_by v) (step n) = noted_stands plain v (step n) a_step
+  call_stands (Some plain) (standing_by v) (format g fill) = format_stands p board (Some plain) (standing_by v) g fill
+  call_stands (Some plain) (standing_by v) (recover g) = noted_stands plain v (recover g) a_recover
+  call_stands (Some plain) (standing_by v) (sweep limit) = noted_stands plain v (sweep limit) a_sweep
 
 -- ---- a loss of supply: after an accepted recovery the board looks like what was kept, after a refused one nothing stands
 
@@ -123,16 +123,16 @@ module _ (board : Board) (volatile : Volatile) where
   stop_stands was s = go was s (eqb (number_of o.number) 0) refl
     where
       go : (was : Option Plain) → Stands board was → (a : Bool) → eqb (number_of o.number) 0 ≡ a
-          → Stands o.board (cond a (promised g was (recover g) o ws) none)
+          → Stands o.board (cond a (promised g was (recover g) o ws) None)
       go was s false e = unpromised
-      go none unpromised true e = recover_stands 0 (lost board volatile) g
-      go (some plain) (standing_by v) true e =
+      go None unpromised true e = recover_stands 0 (lost board volatile) g
+      go (Some plain) (standing_by v) true e =
           let n = eqb-true (number_of o.number) 0 e in
           let l = accepted_lent n in
           let is = stop_recovers board plain v volatile l 0 in
           subst (Stands o.board)
           (sym (ap (λ (z : ℕ). from_some g plain (recover g) z ws) n ∙ noted_back g plain (plan (lost board volatile) (recover g))))
-          (subst (λ (z : Outcome). Stands z.board (some (back plain))) (sym is) (standing_by (stop_inv board plain v volatile l)))
+          (subst (λ (z : Outcome). Stands z.board (Some (back plain))) (sym is) (standing_by (stop_inv board plain v volatile l)))
 
 -- ---- runs
 
@@ -143,26 +143,26 @@ runs_stand (does p c ∷ events) run s = runs_stand events (doing p c run) (call
 runs_stand (stop volatile ∷ events) run s = runs_stand events (stopping volatile run) (stop_stands run.board volatile run.promise s)
 
 -- a run that a promise stands behind looks like the plain machine
-pub run_inv : (board : Board) (events : List Event) (plain : Plain) → (runs events (record { board = board; promise = none })).promise ≡ some plain
-    → Inv (runs events (record { board = board; promise = none })).board plain
-run_inv board events plain e = go run.promise (runs_stand events (record { board = board; promise = none }) unpromised) e
+pub run_inv : (board : Board) (events : List Event) (plain : Plain) → (runs events (record { board = board; promise = None })).promise ≡ Some plain
+    → Inv (runs events (record { board = board; promise = None })).board plain
+run_inv board events plain e = go run.promise (runs_stand events (record { board = board; promise = None }) unpromised) e
   where
     run : Run
-    run = runs events (record { board = board; promise = none })
+    run = runs events (record { board = board; promise = None })
 
-    go : (promise : Option Plain) → Stands run.board promise → promise ≡ some plain → Inv run.board plain
-    go none unpromised q = absurd (none_some plain q)
-    go (some found) (standing_by v) q =
+    go : (promise : Option Plain) → Stands run.board promise → promise ≡ Some plain → Inv run.board plain
+    go None unpromised q = absurd (none_some plain q)
+    go (Some found) (standing_by v) q =
         let same : found ≡ plain = cc in
         subst (Inv run.board) same v
 
 pub demand_2 : Demand2
 unfolding Demand2
-demand_2 board events plain e = inv_shows (runs events (record { board = board; promise = none })).board plain (run_inv board events plain e)
+demand_2 board events plain e = inv_shows (runs events (record { board = board; promise = None })).board plain (run_inv board events plain e)
 
 -- no call makes a table that names a block twice, nor does a recovery that is accepted
 pub never_twice : NeverTwice
 unfolding NeverTwice
 never_twice board events plain e awake =
-    let run = runs events (record { board = board; promise = none }) in
+    let run = runs events (record { board = board; promise = None }) in
     apart_distinct (table_of run.board) (inv_apart run.board plain (run_inv board events plain e) awake)

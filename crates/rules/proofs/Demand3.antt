@@ -1,7 +1,7 @@
 -- Demand 3: after any run from one finished format, and inside any further call, recovery gives the last finished checkpoint.
 use mathlib.Core.Path.{◌≡◌, refl, sym, ap, ◌∙◌, subst}
 use mathlib.Core.List.{List, [], ◌∷◌}
-use mathlib.Core.Option.{Option, none, some}
+use Rattle.std.specs.Prelude.{Option, None, Some}
 use Prim.Native.Nat.{ℕ, ◌*◌}
 use lib.ListN.{length}
 use Rattle.words.specs.Words.{Store, lay}
@@ -29,7 +29,7 @@ use Rattle.rules.proofs.LiveShown.{inv_shows, load_accepted}
 
 -- the board looks like the plain machine, and has the sizes of its format
 pub record Good (g : Geometry) (run : Run) (plain : Plain) : Type 0 where
-  pub stands : run.promise ≡ some plain
+  pub stands : run.promise ≡ Some plain
   pub inv : Inv run.board plain
   pub same : sizes run.board ≡ g
 
@@ -45,7 +45,7 @@ call_keeps board plain v c (a_step {n = n}) = step_keeps board plain v n
 call_keeps board plain v c (a_recover {h = h}) = recover_keeps board plain v h
 call_keeps board plain v c (a_sweep {limit = limit}) = sweep_keeps board plain v limit
 
-pub noted : (g : Geometry) (plain : Plain) (c : Call) (n : ℕ) (ws : List Store) → NoFormat c → from_some g plain c n ws ≡ some (note g plain c n ws)
+pub noted : (g : Geometry) (plain : Plain) (c : Call) (n : ℕ) (ws : List Store) → NoFormat c → from_some g plain c n ws ≡ Some (note g plain c n ws)
 unfolding from_some
 noted g plain c n ws a_load = refl
 noted g plain c n ws a_peek = refl
@@ -86,19 +86,19 @@ stop_recovers board plain v volatile l p = recover_is (sizes board) p (lost boar
 
 -- the plain machine goes back to what is kept
 abbrev pub back : Plain → Plain
-back plain = record { live = plain.kept.blocks; kept = plain.kept; on_its_way = none }
+back plain = record { live = plain.kept.blocks; kept = plain.kept; on_its_way = None }
 
 none_stored : (q : Plan) → stored 0 q ≡ []
 unfolding stored
 none_stored (refuse n) = refl
 none_stored (carry ws after gives) = refl
 
-pub noted_back : (g : Geometry) (plain : Plain) (q : Plan) → from_some g plain (recover g) 0 (stored 0 q) ≡ some (back plain)
+pub noted_back : (g : Geometry) (plain : Plain) (q : Plan) → from_some g plain (recover g) 0 (stored 0 q) ≡ Some (back plain)
 unfolding did
 noted_back g plain q =
     noted g plain (recover g) 0 (stored 0 q) a_recover
-    ∙ ap (λ (z : List Store). some (note g plain (recover g) 0 z)) (none_stored q)
-    ∙ ap (λ (z : Plain). some z) (note_unmarked g plain (recover g) 0 [] (no_mark g done))
+    ∙ ap (λ (z : List Store). Some (note g plain (recover g) 0 z)) (none_stored q)
+    ∙ ap (λ (z : Plain). Some z) (note_unmarked g plain (recover g) 0 [] (no_mark g done))
 
 pub stop_inv : (board : Board) (plain : Plain) (v : Inv board plain) (volatile : Volatile) → Lent (sizes board) (lost board volatile)
     → Inv (recovered (sizes board) board.memory volatile.cache board.volatile.controller.finished v.registers v.keeps) (back plain)
@@ -134,8 +134,8 @@ stop_good g volatile run plain l v =
     o = whole (lost run.board volatile) []
         (recovered h run.board.memory volatile.cache run.board.volatile.controller.finished v.inv.registers v.inv.keeps).volatile (handed_out v.inv.registers)
 
-    promise_stands : (z : Option Plain) → z ≡ some plain
-        → promised h z (recover h) o (stored 0 (plan (lost run.board volatile) (recover h))) ≡ some (back plain)
+    promise_stands : (z : Option Plain) → z ≡ Some plain
+        → promised h z (recover h) o (stored 0 (plan (lost run.board volatile) (recover h))) ≡ Some (back plain)
     promise_stands z e =
         ap (λ (y : Option Plain). promised h y (recover h) o (stored 0 (plan (lost run.board volatile) (recover h)))) e
         ∙ noted_back h plain (plan (lost run.board volatile) (recover h))

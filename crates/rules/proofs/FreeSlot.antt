@@ -2,7 +2,7 @@
 use mathlib.Core.Path.{◌≡◌, refl, sym, ◌∙◌}
 use mathlib.Core.Logic.{◌≢◌}
 use mathlib.Core.List.{List, [], ◌∷◌}
-use mathlib.Core.Option.{Option, none, some}
+use Rattle.std.specs.Prelude.{Option, Some, None}
 use Prim.Native.Nat.{ℕ, zero, suc, ◌<◌}
 use native.Mathlib.Omega.{arith}
 use native.Mathlib.Nat.{not-suc-le-zero}
@@ -18,8 +18,8 @@ pub data Vacant : List ℕ → ℕ → Type 0 where
 
 -- the lowest free slot, or none at all
 abbrev pub VacantAt : List ℕ → Option ℕ → Type 0
-VacantAt table none = All (λ w. says w ≢ free) table
-VacantAt table (some slot) = Vacant table slot
+VacantAt table None = All (λ w. says w ≢ free) table
+VacantAt table (Some slot) = Vacant table slot
 
 pub vacant : (table : List ℕ) → VacantAt table (lowest_free table)
 unfolding lowest_free free_by slot_on
@@ -27,8 +27,8 @@ vacant [] = done
 vacant (word ∷ table) = go (says word) refl (lowest_free table) (vacant table)
   where
     under : (x : Says) → says word ≡ x → x ≢ free → (o : Option ℕ) → VacantAt table o → VacantAt (word ∷ table) (slot_on o)
-    under x q ne none v = also (λ e. ne (sym q ∙ e)) v
-    under x q ne (some slot) v = on (λ e. ne (sym q ∙ e)) v
+    under x q ne None v = also (λ e. ne (sym q ∙ e)) v
+    under x q ne (Some slot) v = on (λ e. ne (sym q ∙ e)) v
 
     go : (x : Says) → says word ≡ x → (o : Option ℕ) → VacantAt table o → VacantAt (word ∷ table) (free_by x o)
     go free q o v = hit q

@@ -3,7 +3,7 @@ use mathlib.Core.Path.{◌≡◌, refl, ◌∙◌}
 use mathlib.Core.Logic.{◌≢◌}
 use mathlib.Core.Bool.{Bool, true, false, cond}
 use mathlib.Core.List.{List, [], map}
-use mathlib.Core.Option.{Option, none, some}
+use Rattle.std.specs.Prelude.{Option, None, Some}
 use Prim.Native.Nat.{ℕ, zero, suc, ◌+◌, ◌≤◌, ◌<◌}
 use native.Mathlib.Omega.{arith}
 use lib.Dec.{eqb, leb, ltb}
@@ -40,11 +40,11 @@ use Rattle.rules.proofs.Checked.{Lent}
 -- what the finished backup holds in a slot, by the state that a running table has there.
 -- Guards against removing a hidden entry early, and against saving a pre-hidden one as free: their slots hold the finished copy.
 unfoldable pub standing : State → Option State
-standing Clean = some Clean
-standing Dirty = none
-standing Hidden = some Clean
-standing PreHidden = some Clean
-standing PreDirty = none
+standing Clean = Some Clean
+standing Dirty = None
+standing Hidden = Some Clean
+standing PreHidden = Some Clean
+standing PreDirty = None
 
 -- what is well formed in a column is well formed while Running, which allows every state
 pub formed_running : (allowed : State → Bool) (g : Geometry) (w : ℕ) → well_formed allowed g w ≡ true → well_formed (allows Running) g w ≡ true
@@ -68,11 +68,11 @@ pub record Live (g : Geometry) (allowed : State → Bool) (memory cache table : 
 -- a checkpoint on its way, of which so many words are stored
 pub record Drafted (g : Geometry) (memory table registers : List ℕ) (finished : Backup) (count : ℕ) (on_its_way : Option Picture) : Type 0 where
   pub picture : Picture
-  pub begun : on_its_way ≡ some picture
+  pub begun : on_its_way ≡ Some picture
   -- no step is ever refused with RECORD
   pub few : count ≤ g.slots + 8
   pub eight : length registers ≡ 64
-  pub given : some registers ≡ picture.registers
+  pub given : Some registers ≡ picture.registers
   -- the words that are about to be saved give the picture: guards against writing fresh blocks to CHECKPOINT while Writing
   pub blocks : (block : ℕ) → block < g.blocks → block_at memory (saved_block g (map (changed saved) table) block) ≡ picture.blocks block
   -- what was stored of the list stands: guards against a mark that comes before the last table word

@@ -3,7 +3,6 @@ use mathlib.Core.Path.{◌≡◌, refl, sym, ap, ◌∙◌, subst}
 use mathlib.Core.Logic.{◌≢◌}
 use mathlib.Core.Bool.{Bool, true, false, not, ◌&&◌}
 use mathlib.Core.List.{List, [], ◌∷◌, ◌++◌, map}
-use mathlib.Core.Option.{Option, none, some}
 use Prim.Native.Nat.{ℕ, zero, suc, ◌+◌, ◌*◌, ◌≤◌, ◌<◌}
 use native.Mathlib.Omega.{arith}
 use native.Mathlib.Nat.{le_refl, suc-ne-zero, not-suc-le-zero, zero-add}
@@ -11,6 +10,7 @@ use native.Mathlib.Decide.{ℕ_discrete}
 use lib.Dec.{eqb, ltb}
 use lib.ListN.{length, get_or, length-map}
 use borrow.Author.Tests.{eqb-true, not-false, ltb-true}
+use Rattle.std.specs.Prelude.{Option, None, Some}
 use Rattle.words.specs.Words.{word, block_at, Store, lay, bytes_to}
 use Rattle.words.proofs.All.{All, done, all_take, all_append, all_map}
 use Rattle.words.proofs.Lists.{Fit, lay-length, lay-append}
@@ -21,11 +21,10 @@ use Rattle.rules.specs.declared.Phase.{Phase}
 use Rattle.rules.specs.declared.Phase.TheVariants.{Running, Writing, Off}
 use Rattle.rules.specs.declared.State.{State}
 use Rattle.rules.specs.declared.State.TheVariants.{Clean, Dirty, Hidden, PreHidden, PreDirty}
-use Rattle.rules.specs.declared.Lookup.{Lookup}
-use Rattle.rules.specs.declared.Lookup.TheVariants.{Entry, Nothing}
+use Rattle.rules.specs.declared.Entry.{Entry}
 use Rattle.rules.specs.declared.Number.TheVariants as No
 use Rattle.rules.specs.Geometry.{memory_words, checkpoint_block}
-use Rattle.rules.specs.TableWords.{word_of, Says, free, names, neither, says, lookup, entry_or, changed_by, changed}
+use Rattle.rules.specs.TableWords.{entry_at, word_of, Says, free, names, neither, says, lookup, entry_or, changed_by, changed}
 use Rattle.rules.specs.Board.{Board, sizes, phase_of, cache_of, table_of}
 use Rattle.rules.specs.Numbers.{number_of, ◌⇒◌, inexact, is_off, while_writing, allows, well_said, well_formed, is_writing}
 use Rattle.rules.specs.Power.{Plan, carry}
@@ -43,12 +42,13 @@ use Rattle.rules.proofs.Saving.{Loose, in_block, kept_whole}
 use Rattle.rules.proofs.Checked.{passed, Common, common_passed}
 use Rattle.rules.proofs.Invariant.{standing, Live, Mode, mode_running, mode_writing, Inv, Keeps, k_carry, did_not, note_loose, guarded, stopped}
 use Rattle.rules.proofs.KeepsStore.{home_loose, slot_loose, gone_old}
+use Rattle.rules.proofs.EntryCases.{Case, nothing, in_slot, case_of}
 
 -- ---- the list of copies, slot by slot
 
 -- of a table whose first word is that of slot `first`, this slot is copied to block q of the memory
 pub data Goes (g : Geometry) : ℕ → List ℕ → ℕ → ℕ → Type 0 where
-  here : {first word q : ℕ} {table : List ℕ} → copied_to g first (says word) ≡ some q → Goes g first (word ∷ table) first q
+  here : {first word q : ℕ} {table : List ℕ} → copied_to g first (says word) ≡ Some q → Goes g first (word ∷ table) first q
   there : {first word slot q : ℕ} {table : List ℕ} → Goes g (suc first) table slot q → Goes g first (word ∷ table) slot q
 
 goes_from : {g : Geometry} {first slot q : ℕ} {table : List ℕ} → Goes g first table slot q → first ≤ slot
@@ -56,19 +56,19 @@ goes_from {first = first} (here e) = le_refl first
 goes_from (there x) = let h = goes_from x in omega arith
 
 goes_at : {g : Geometry} {first slot q : ℕ} {table : List ℕ} → Goes g first table slot q
-    → (j : ℕ) × ((slot ≡ first + j) × (j < length table) × (copied_to g slot (says (get_or table j 0)) ≡ some q))
+    → (j : ℕ) × ((slot ≡ first + j) × (j < length table) × (copied_to g slot (says (get_or table j 0)) ≡ Some q))
 goes_at {first = first} (here {table = table} e) = (0, (omega arith, omega arith, e))
 goes_at {first = first} (there {table = table} x) = let r = goes_at x in (suc r.0, (omega (arith, r.1.0), omega (arith, r.1.1), r.1.2))
 
-at_goes : (g : Geometry) (first q j : ℕ) (table : List ℕ) → j < length table → copied_to g (first + j) (says (get_or table j 0)) ≡ some q → Goes g first table (first + j) q
+at_goes : (g : Geometry) (first q j : ℕ) (table : List ℕ) → j < length table → copied_to g (first + j) (says (get_or table j 0)) ≡ Some q → Goes g first table (first + j) q
 at_goes g first q j [] h e = absurd (not-suc-le-zero h)
 at_goes g first q zero (word ∷ table) h e =
     let z : first ≡ first + 0 = omega arith in
-    subst (λ (n : ℕ). Goes g first (word ∷ table) n q) z (here (subst (λ (n : ℕ). copied_to g n (says word) ≡ some q) (sym z) e))
+    subst (λ (n : ℕ). Goes g first (word ∷ table) n q) z (here (subst (λ (n : ℕ). copied_to g n (says word) ≡ Some q) (sym z) e))
 at_goes g first q (suc j) (word ∷ table) h e =
     let z : suc first + j ≡ first + suc j = omega arith in
     subst (λ (n : ℕ). Goes g first (word ∷ table) n q) z
-    (there (at_goes g (suc first) q j table (omega arith) (subst (λ (n : ℕ). copied_to g n (says (get_or table j 0)) ≡ some q) (sym z) e)))
+    (there (at_goes g (suc first) q j table (omega arith) (subst (λ (n : ℕ). copied_to g n (says (get_or table j 0)) ≡ Some q) (sym z) e)))
 
 module _ (g : Geometry) (cache : List ℕ) where
   -- a property of every store of the list follows from the copies of the slots
@@ -80,9 +80,9 @@ module _ (g : Geometry) (cache : List ℕ) where
   copies_all P (word ∷ table) first h =
       all_append (one (copied_to g first (says word)) (λ q e. h first q (here e))) (copies_all P table (suc first) (λ slot q x. h slot q (there x)))
     where
-      one : (o : Option ℕ) → ((q : ℕ) → o ≡ some q → All P (bytes_to (8 * q) 8 (block_at cache first))) → All P (copy_of cache first o)
-      one none f = done
-      one (some q) f = f q refl
+      one : (o : Option ℕ) → ((q : ℕ) → o ≡ Some q → All P (bytes_to (8 * q) 8 (block_at cache first))) → All P (copy_of cache first o)
+      one None f = done
+      one (Some q) f = f q refl
 
   -- every copy is 64 bytes of CACHE and has room in a memory of so many bytes
   pub Fits : ℕ → ℕ → List ℕ → Type 0
@@ -105,7 +105,7 @@ module _ (g : Geometry) (cache : List ℕ) where
   unfolding copies
   copies_cons word table first = refl
 
-  copy_some : (slot q : ℕ) → copy_of cache slot (some q) ≡ bytes_to (8 * q) 8 (block_at cache slot)
+  copy_some : (slot q : ℕ) → copy_of cache slot (Some q) ≡ bytes_to (8 * q) 8 (block_at cache slot)
   unfolding copy_of
   copy_some slot q = refl
 
@@ -113,9 +113,9 @@ module _ (g : Geometry) (cache : List ℕ) where
   unfolding Fits copy_of
   first_fit size word table first f = go (copied_to g first (says word)) (λ q e. f first q (here e))
     where
-      go : (o : Option ℕ) → ((q : ℕ) → o ≡ some q → (64 * q + 64 ≤ size) × (length (block_at cache first) ≡ 64)) → All (Fit size) (copy_of cache first o)
-      go none h = done
-      go (some q) h = let r = h q refl in (block_stores q size (block_at cache first) r.1 r.0).fits
+      go : (o : Option ℕ) → ((q : ℕ) → o ≡ Some q → (64 * q + 64 ≤ size) × (length (block_at cache first) ≡ 64)) → All (Fit size) (copy_of cache first o)
+      go None h = done
+      go (Some q) h = let r = h q refl in (block_stores q size (block_at cache first) r.1 r.0).fits
 
   -- a block to which one slot is copied holds that slot's block afterwards
   copies_hit : {first slot q : ℕ} {table : List ℕ} (memory : List ℕ)
@@ -150,11 +150,11 @@ pub data Aims (g : Geometry) (slot word q : ℕ) : Type 0 where
   to_home : says word ≡ names q PreHidden → Aims g slot word q
   to_checkpoint : (block : ℕ) → says word ≡ names block PreDirty → q ≡ checkpoint_block g slot → Aims g slot word q
 
-aims : (g : Geometry) (slot word q : ℕ) → copied_to g slot (says word) ≡ some q → Aims g slot word q
+aims : (g : Geometry) (slot word q : ℕ) → copied_to g slot (says word) ≡ Some q → Aims g slot word q
 unfolding copied_to
 aims g slot word q = go (says word) refl
   where
-    go : (x : Says) → says word ≡ x → copied_to g slot x ≡ some q → Aims g slot word q
+    go : (x : Says) → says word ≡ x → copied_to g slot x ≡ Some q → Aims g slot word q
     go free e h = absurd (none_some q h)
     go neither e h = absurd (none_some q h)
     go (names block Clean) e h = absurd (none_some q h)
@@ -171,12 +171,12 @@ module _ (g : Geometry) (memory cache table : List ℕ) (live : ℕ → List ℕ
   goes_aims slot q x =
       let r = goes_at x in
       let z : r.0 ≡ slot = (let h : slot ≡ 0 + r.0 = r.1.0 in omega arith) in
-      (omega (arith, r.1.1), aims g slot (get_or table slot 0) q (subst (λ (n : ℕ). copied_to g slot (says (get_or table n 0)) ≡ some q) z r.1.2))
+      (omega (arith, r.1.1), aims g slot (get_or table slot 0) q (subst (λ (n : ℕ). copied_to g slot (says (get_or table n 0)) ≡ Some q) z r.1.2))
 
-  goes_there : (slot q : ℕ) → slot < g.slots → copied_to g slot (says (get_or table slot 0)) ≡ some q → Goes g 0 table slot q
+  goes_there : (slot q : ℕ) → slot < g.slots → copied_to g slot (says (get_or table slot 0)) ≡ Some q → Goes g 0 table slot q
   goes_there slot q h e =
       subst (λ (n : ℕ). Goes g 0 table n q) (zero-add slot)
-      (at_goes g 0 q slot table (omega arith) (subst (λ (n : ℕ). copied_to g n (says (get_or table slot 0)) ≡ some q) (sym (zero-add slot)) e))
+      (at_goes g 0 q slot table (omega arith) (subst (λ (n : ℕ). copied_to g n (says (get_or table slot 0)) ≡ Some q) (sym (zero-add slot)) e))
 
   named_lt : (slot block : ℕ) (state : State) → slot < g.slots → says (get_or table slot 0) ≡ names block state → block < g.blocks
   unfolding well_formed well_said
@@ -226,7 +226,7 @@ module _ (g : Geometry) (memory cache table : List ℕ) (live : ℕ → List ℕ
       block_clear (copies g cache 0 table) memory q copies_fitting
       (copies_clear g cache (length memory) table 0 q fits (λ slot x. let a = goes_aims slot q x in h slot a.0 a.1))
 
-  copied : (slot q : ℕ) → slot < g.slots → copied_to g slot (says (get_or table slot 0)) ≡ some q
+  copied : (slot q : ℕ) → slot < g.slots → copied_to g slot (says (get_or table slot 0)) ≡ Some q
       → ((i : ℕ) → i < g.slots → Aims g i (get_or table i 0) q → i ≡ slot) → block_at memory' q ≡ block_at cache slot
   unfolding memory'
   copied slot q h e u = copies_hit g cache memory fits (goes_there slot q h e) (λ i x. let a = goes_aims i q x in u i a.0 a.1)
@@ -234,14 +234,14 @@ module _ (g : Geometry) (memory cache table : List ℕ) (live : ℕ → List ℕ
   -- after the copies every block is where begin's table has it
   after : (block : ℕ) → block < g.blocks → block_at memory' (saved_by g block (found begun (lookup block table))) ≡ live block
   unfolding visible spot_of spot_in block_in saved_by found found_or begun copied_to
-  after block h = go (lookup block table) (finds block table) (sh.shows block h)
+  after block h = go (case_of (lookup block table)) (finds block table) (sh.shows block h)
     where
       -- HOME of a block is no slot's goal but that of its own entry
       at_home : (i : ℕ) → i < g.slots → Aims g i (get_or table i 0) block → says (get_or table i 0) ≡ names block PreHidden
       at_home i l (to_home e) = e
       at_home i l (to_checkpoint k e z) = absurd (omega arith)
 
-      own_home : (slot : ℕ) (state : State) → Finds block table (Entry slot state) → (i : ℕ) → i < g.slots → Aims g i (get_or table i 0) block → i ≡ slot
+      own_home : (slot : ℕ) (state : State) → Finds block table (entry_at slot state) → (i : ℕ) → i < g.slots → Aims g i (get_or table i 0) block → i ≡ slot
       own_home slot state l i b x =
           elim (ℕ_discrete i slot) [ yes q ↦ q | no ne ↦ absurd ((apart_at sh.apart l i ne).never PreHidden (at_home i b x)) ]
 
@@ -250,7 +250,7 @@ module _ (g : Geometry) (memory cache table : List ℕ) (live : ℕ → List ℕ
       own_slot slot i l (to_home e) = absurd (let z = named_lt i (g.blocks + slot) PreHidden l e in omega arith)
       own_slot slot i l (to_checkpoint k e z) = (omega arith, (k, e))
 
-      slot_still : (slot : ℕ) (state : State) → Finds block table (Entry slot state) → state ≢ PreDirty → block_at memory' (g.blocks + slot) ≡ block_at memory (g.blocks + slot)
+      slot_still : (slot : ℕ) (state : State) → Finds block table (entry_at slot state) → state ≢ PreDirty → block_at memory' (g.blocks + slot) ≡ block_at memory (g.blocks + slot)
       slot_still slot state l ne =
           still (g.blocks + slot)
           (λ i b x. let r = own_slot slot i b x in
@@ -258,7 +258,7 @@ module _ (g : Geometry) (memory cache table : List ℕ) (live : ℕ → List ℕ
           let e' : says (get_or table slot 0) ≡ names block state = found_at l in
           ne (cc))
 
-      home_still : (slot : ℕ) (state : State) → Finds block table (Entry slot state) → state ≢ PreHidden → block_at memory' block ≡ block_at memory block
+      home_still : (slot : ℕ) (state : State) → Finds block table (entry_at slot state) → state ≢ PreHidden → block_at memory' block ≡ block_at memory block
       home_still slot state l ne =
           still block
           (λ i b x.
@@ -267,34 +267,34 @@ module _ (g : Geometry) (memory cache table : List ℕ) (live : ℕ → List ℕ
           let e' : says (get_or table slot 0) ≡ names block state = found_at l in
           ne (cc))
 
-      go : (r : Lookup) → Finds block table r → block_in memory cache (spot_of g block r) ≡ live block → block_at memory' (saved_by g block (found begun r)) ≡ live block
-      go Nothing l e = still block (λ i b x. (not_found i l).never PreHidden (at_home i b x)) ∙ e
-      go (Entry slot Clean) l e = slot_still slot Clean l (λ q. let z : ◌≡◌ {A = ℕ} 0 1 = cc in omega arith) ∙ e
-      go (Entry slot Dirty) l e = slot_still slot Dirty l (λ q. let z : ◌≡◌ {A = ℕ} 0 1 = cc in omega arith) ∙ e
-      go (Entry slot Hidden) l e = home_still slot Hidden l (λ q. let z : ◌≡◌ {A = ℕ} 0 1 = cc in omega arith) ∙ e
-      go (Entry slot PreHidden) l e =
+      go : {r : Option Entry} → Case r → Finds block table r → block_in memory cache (spot_of g block r) ≡ live block → block_at memory' (saved_by g block (found begun r)) ≡ live block
+      go nothing l e = still block (λ i b x. (not_found i l).never PreHidden (at_home i b x)) ∙ e
+      go (in_slot slot Clean) l e = slot_still slot Clean l (λ q. let z : ◌≡◌ {A = ℕ} 0 1 = cc in omega arith) ∙ e
+      go (in_slot slot Dirty) l e = slot_still slot Dirty l (λ q. let z : ◌≡◌ {A = ℕ} 0 1 = cc in omega arith) ∙ e
+      go (in_slot slot Hidden) l e = home_still slot Hidden l (λ q. let z : ◌≡◌ {A = ℕ} 0 1 = cc in omega arith) ∙ e
+      go (in_slot slot PreHidden) l e =
           copied slot block (omega (arith, found_lt l, lt)) (ap (copied_to g slot) (found_at l)) (own_home slot PreHidden l) ∙ e
-      go (Entry slot PreDirty) l e =
+      go (in_slot slot PreDirty) l e =
           copied slot (g.blocks + slot) (omega (arith, found_lt l, lt)) (ap (copied_to g slot) (found_at l)) (λ i b x. (own_slot slot i b x).0) ∙ e
 
   -- begin's table holds clean entries alone: it shows a block where it saves it
-  begun_spot : (block : ℕ) (r : Lookup) → spot_of g block (found begun r) ≡ in_memory (saved_by g block (found begun r))
+  begun_spot : (block : ℕ) {r : Option Entry} → Case r → spot_of g block (found begun r) ≡ in_memory (saved_by g block (found begun r))
   unfolding spot_of spot_in saved_by found found_or begun
-  begun_spot block Nothing = refl
-  begun_spot block (Entry slot Clean) = refl
-  begun_spot block (Entry slot Dirty) = refl
-  begun_spot block (Entry slot Hidden) = refl
-  begun_spot block (Entry slot PreHidden) = refl
-  begun_spot block (Entry slot PreDirty) = refl
+  begun_spot block nothing = refl
+  begun_spot block (in_slot slot Clean) = refl
+  begun_spot block (in_slot slot Dirty) = refl
+  begun_spot block (in_slot slot Hidden) = refl
+  begun_spot block (in_slot slot PreHidden) = refl
+  begun_spot block (in_slot slot PreDirty) = refl
 
-  begun_saved : (r : Lookup) → found saved (found begun r) ≡ found begun r
+  begun_saved : {r : Option Entry} → Case r → found saved (found begun r) ≡ found begun r
   unfolding found found_or begun saved
-  begun_saved Nothing = refl
-  begun_saved (Entry slot Clean) = refl
-  begun_saved (Entry slot Dirty) = refl
-  begun_saved (Entry slot Hidden) = refl
-  begun_saved (Entry slot PreHidden) = refl
-  begun_saved (Entry slot PreDirty) = refl
+  begun_saved nothing = refl
+  begun_saved (in_slot slot Clean) = refl
+  begun_saved (in_slot slot Dirty) = refl
+  begun_saved (in_slot slot Hidden) = refl
+  begun_saved (in_slot slot PreHidden) = refl
+  begun_saved (in_slot slot PreDirty) = refl
 
   begun_finds : (block : ℕ) → Finds block (map (changed begun) table) (found begun (lookup block table))
   begun_finds block = changed_finds begun sh.apart (finds block table)
@@ -321,16 +321,16 @@ module _ (g : Geometry) (memory cache table : List ℕ) (live : ℕ → List ℕ
     formed = all_over (changed begun) begun_formed sh.formed;
     apart = changed_apart begun sh.apart;
     shows = λ block h.
-        ap (λ (r : Lookup). block_in memory' cache (spot_of g block r)) (finds_lookup (begun_finds block))
-        ∙ ap (block_in memory' cache) (begun_spot block (lookup block table))
+        ap (λ (r : Option Entry). block_in memory' cache (spot_of g block r)) (finds_lookup (begun_finds block))
+        ∙ ap (block_in memory' cache) (begun_spot block (case_of (lookup block table)))
         ∙ after block h;
   }
 
   pub begun_picture : (block : ℕ) → block < g.blocks → block_at (lay (copies g cache 0 table) memory) (saved_block g (map (changed saved) (map (changed begun) table)) block) ≡ live block
   unfolding saved_block memory'
   begun_picture block h =
-      ap (λ (r : Lookup). block_at memory' (saved_by g block r))
-      (finds_lookup (changed_finds saved (changed_apart begun sh.apart) (begun_finds block)) ∙ begun_saved (lookup block table))
+      ap (λ (r : Option Entry). block_at memory' (saved_by g block r))
+      (finds_lookup (changed_finds saved (changed_apart begun sh.apart) (begun_finds block)) ∙ begun_saved (case_of (lookup block table)))
       ∙ after block h
 
 -- ---- the plan
@@ -390,7 +390,7 @@ module _ (board : Board) (plain : Plain) (v : Inv board plain) (registers : List
         kept = kept_whole v.kept ws fit loose;
         mode = mode_writing {count = 0} (begun_live g board.memory (cache_of board) (table_of board) plain.live sh v.lent.memory v.lent.cache v.lent.table)
             (record {
-              picture = record { blocks = plain.live; registers = some registers };
+              picture = record { blocks = plain.live; registers = Some registers };
               begun = refl;
               few = omega arith;
               eight = eight;

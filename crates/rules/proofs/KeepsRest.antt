@@ -2,13 +2,13 @@
 use mathlib.Core.Path.{◌≡◌, refl, sym, ap, ◌∙◌, subst}
 use mathlib.Core.Bool.{true, false}
 use mathlib.Core.List.{List, [], ◌∷◌, ◌++◌, map, append_assoc}
-use mathlib.Core.Option.{Option, none, some}
 use Prim.Native.Nat.{ℕ, zero, suc, ◌+◌, ◌*◌, ◌<◌}
 use native.Mathlib.Omega.{arith}
 use native.Mathlib.Nat.{not-suc-le-zero}
 use lib.Dec.{ltb}
 use lib.ListN.{length, get_or, take, replicate, length-append}
 use lib.Seq.{take-append-le, take-append-add}
+use Rattle.std.specs.Prelude.{Option, Some, None}
 use Rattle.words.specs.Words.{word, words, block_at, Store, lay, fill_to, number, numbers_to, numbers}
 use Rattle.words.proofs.All.{All, done, also, all_take, all_append, all_map}
 use Rattle.words.proofs.Lists.{Fit, lay-length, lay-append, Misses, untouched}
@@ -21,8 +21,7 @@ use Rattle.rules.specs.declared.Backup.TheVariants.{A}
 use Rattle.rules.specs.declared.Phase.TheVariants.{Running}
 use Rattle.rules.specs.declared.State.{State}
 use Rattle.rules.specs.declared.State.TheVariants.{Clean, Dirty, Hidden, PreHidden, PreDirty}
-use Rattle.rules.specs.declared.Lookup.{Lookup}
-use Rattle.rules.specs.declared.Lookup.TheVariants.{Entry, Nothing}
+use Rattle.rules.specs.declared.Entry.{Entry}
 use Rattle.rules.specs.declared.Number.{Number}
 use Rattle.rules.specs.declared.Number.TheVariants as No
 use Rattle.rules.specs.Geometry.{home_start, home_words, backup_start, backup_words, mark_start, memory_words}
@@ -103,10 +102,10 @@ module _ (g : Geometry) (memory cache table : List ℕ) (good : sound g table �
     shows = λ block h. go block (lookup block table) (finds block table);
   }
     where
-      go : (block : ℕ) (r : Lookup) → Finds block table r → block_in memory cache (spot_of g block r) ≡ block_at memory (saved_by g block r)
-      go block Nothing l = refl
-      go block (Entry slot state) l =
-          rw (clean_named g (get_or table slot 0) block state (all_get slot cleans (found_lt l)) (found_at l))
+      go : (block : ℕ) (r : Option Entry) → Finds block table r → block_in memory cache (spot_of g block r) ≡ block_at memory (saved_by g block r)
+      go block None l = refl
+      go block (Some entry) l =
+          rw (clean_named g (get_or table entry.slot 0) block entry.state (all_get entry.slot cleans (found_lt l)) (found_at l))
 
   pub sound_stands : map (changed standing) table ≡ table
   sound_stands = clean_table g cleans
@@ -128,10 +127,10 @@ module _ (g : Geometry) (board : Board) {x : Backup} {registers : Option (List �
   unfolding recover_from head_of head_from
   recover_from_lem = go (finished_in g board.memory) k.reads
     where
-      go : (o : Option Backup) → head_from g board.memory o ≡ record { finished = some x; registers = registers; table = table } → recover_from board g o ≡ goal
-      go none e = absurd (none_some x (ap (λ (h : Head). h.finished) e))
-      go (some y) e =
-          let ey : y ≡ x = (let w : some y ≡ some x = ap (λ (h : Head). h.finished) e in cc) in
+      go : (o : Option Backup) → head_from g board.memory o ≡ record { finished = Some x; registers = registers; table = table } → recover_from board g o ≡ goal
+      go None e = absurd (none_some x (ap (λ (h : Head). h.finished) e))
+      go (Some y) e =
+          let ey : y ≡ x = (let w : Some y ≡ Some x = ap (λ (h : Head). h.finished) e in cc) in
           let er : saved_registers g board.memory y ≡ registers = ap (λ (h : Head). h.registers) e in
           let et : table_in g board.memory y ≡ table = ap (λ (h : Head). h.table) e in
           cc
@@ -140,9 +139,9 @@ module _ (g : Geometry) (board : Board) {x : Backup} {registers : Option (List �
   unfolding recover_number no_checkpoint unsound head_of head_from first_of
   recover_number_lem f l = go (finished_in g board.memory) k.reads
     where
-      go : (o : Option Backup) → head_from g board.memory o ≡ record { finished = some x; registers = registers; table = table } → recover_number board g o ≡ No.Done
-      go none e = absurd (none_some x (ap (λ (h : Head). h.finished) e))
-      go (some y) e =
+      go : (o : Option Backup) → head_from g board.memory o ≡ record { finished = Some x; registers = registers; table = table } → recover_number board g o ≡ No.Done
+      go None e = absurd (none_some x (ap (λ (h : Head). h.finished) e))
+      go (Some y) e =
           let et : table_in g board.memory y ≡ table = ap (λ (h : Head). h.table) e in
           rw (f, lent_exact g board l, et, k.good)
 
@@ -184,7 +183,7 @@ free_sound g n = rw (clean n, apart n)
     apart zero = refl
     apart (suc n) = apart n
 
-free_lookup : (block n : ℕ) → lookup block (replicate n 0) ≡ Nothing
+free_lookup : (block n : ℕ) → lookup block (replicate n 0) ≡ None
 unfolding lookup lookup_by says one_on
 free_lookup block zero = refl
 free_lookup block (suc n) = rw (free_lookup block n)
@@ -240,7 +239,7 @@ module _ (g : Geometry) (fill : ℕ) (memory : List ℕ) (lm : length memory ≡
   made_length = ap length made_is ∙ lay-length rest marked_zero rest_fits' ∙ same_length ∙ lm
 
   -- every block is fill, and A is finished and has no registers
-  pub made_kept : Kept g (lay (format_list g fill) memory) A none (replicate g.slots 0) (formatted fill).kept
+  pub made_kept : Kept g (lay (format_list g fill) memory) A None (replicate g.slots 0) (formatted fill).kept
   unfolding made rest head_of head_from finished_in finished_by has_registers table_in saved_block saved_by block_at formatted
   made_kept =
       let one = all_split (fill_to (home_start g) (home_words g) fill) stands in
@@ -310,7 +309,7 @@ recover_keeps board plain v h = guarded (recover_number board h (finished_in h b
     g = sizes board
 
     after : Plain
-    after = record { live = plain.kept.blocks; kept = plain.kept; on_its_way = none }
+    after = record { live = plain.kept.blocks; kept = plain.kept; on_its_way = None }
 
     goal : Geometry → Type 0
     goal z = Keeps board plain (recover z) (recover_from board z (finished_in z board.memory))

@@ -3,7 +3,6 @@ use mathlib.Core.Path.{◌≡◌, refl, sym, ap, ◌∙◌, subst}
 use mathlib.Core.Logic.{◌≢◌}
 use mathlib.Core.Bool.{Bool, true, false, ◌&&◌, cond}
 use mathlib.Core.List.{List, [], ◌∷◌, ◌++◌, map}
-use mathlib.Core.Option.{some}
 use Prim.Native.Nat.{ℕ, ◌+◌, ◌*◌, ◌^◌, ◌≤◌, ◌<◌}
 use native.Mathlib.Omega.{arith}
 use native.Mathlib.Nat.{suc-ne-zero}
@@ -11,6 +10,7 @@ use lib.Dec.{eqb, ltb}
 use lib.ListN.{length, take, drop, length-append, length-take, length-drop, length-map, take-append-drop}
 use lib.Seq.{take_all, take-take, take-add, take-append-le, drop-append-le}
 use borrow.Author.Tests.{eqb-true, eqb-false, eq-eqb, ltb-true}
+use Rattle.std.specs.Prelude.{Option, Some, None}
 use Rattle.words.specs.Words.{word, words, block_at, Store, lay, bytes_to, number, number_bytes, numbers_to, numbers}
 use Rattle.words.proofs.All.{All, done, also, all_take, all_drop, all_append, all_map}
 use Rattle.words.proofs.Lists.{Fit, lay-length}
@@ -25,8 +25,7 @@ use Rattle.rules.specs.declared.Phase.TheVariants.{Running, Writing, Off}
 use Rattle.rules.specs.declared.Controller.{Controller}
 use Rattle.rules.specs.declared.State.{State}
 use Rattle.rules.specs.declared.State.TheVariants.{Clean, Dirty, Hidden, PreHidden, PreDirty}
-use Rattle.rules.specs.declared.Lookup.{Lookup}
-use Rattle.rules.specs.declared.Lookup.TheVariants.{Entry, Nothing}
+use Rattle.rules.specs.declared.Entry.{Entry}
 use Rattle.rules.specs.declared.Place.{Place}
 use Rattle.rules.specs.declared.Place.TheVariants.{Home, Checkpoint, Cache}
 use Rattle.rules.specs.declared.Number.TheVariants as No
@@ -190,9 +189,9 @@ shows_same g memory memory' cache table lt same block h = go (lookup block table
     at slot Checkpoint ls = same (g.blocks + slot) (omega arith)
     at slot Cache ls = refl
 
-    go : (r : Lookup) → Finds block table r → block_in memory' cache (spot_of g block r) ≡ block_in memory cache (spot_of g block r)
-    go Nothing l = same block (omega arith)
-    go (Entry slot state) l = at slot (shows state) (omega (arith, found_lt l))
+    go : (r : Option Entry) → Finds block table r → block_in memory' cache (spot_of g block r) ≡ block_in memory cache (spot_of g block r)
+    go None l = same block (omega arith)
+    go (Some entry) l = at entry.slot (shows entry.state) (omega (arith, found_lt l))
 
 -- ---- a whole list that stands in the memory is what recovery reads
 
@@ -200,7 +199,7 @@ pub all_split : {A : Type 0} {P : A → Type 0} (xs : List A) {ys : List A} → 
 all_split [] a = (done, a)
 all_split (x ∷ xs) (also a az) = let r = all_split xs az in (also a r.0, r.1)
 
-pub mark_names : (backup : Backup) → finished_by (mark_of backup) ≡ some backup
+pub mark_names : (backup : Backup) → finished_by (mark_of backup) ≡ Some backup
 unfolding finished_by
 mark_names A = refl
 mark_names B = refl
@@ -216,7 +215,7 @@ mark_small B = omega arith
 
 finished_head : (g : Geometry) (backup : Backup) (memory registers table : List ℕ) → length registers ≡ 64 → length table ≡ g.slots → All Small table
     → All (Held memory) (checkpoint_list g backup registers table)
-    → head_of g memory ≡ record { finished = some backup; registers = some registers; table = table }
+    → head_of g memory ≡ record { finished = Some backup; registers = Some registers; table = table }
 unfolding head_of head_from finished_in registers_in table_in checkpoint_list
 finished_head g backup memory registers table e8 es sm h =
     let one = all_split (bytes_to (backup_start g backup) 8 registers ++ numbers_to (backup_start g backup + 8) table) h in
@@ -337,9 +336,9 @@ module _ (board : Board) (plain : Plain) (v : Inv board plain) (count : ℕ)
   ends n e c = record {
     fine = v.fine;
     lent = record { memory = lent_after n; cache = v.lent.cache; table = v.lent.table };
-    registers = some registers;
+    registers = Some registers;
     keeps = saves;
-    kept = subst (Kept g (memory' n) backup (some registers) saves) (sym (ap (kept_or plain.kept) dr.begun))
+    kept = subst (Kept g (memory' n) backup (Some registers) saves) (sym (ap (kept_or plain.kept) dr.begun))
         (record {
           reads =
               finished_head g backup (memory' n) registers saves dr.eight exact

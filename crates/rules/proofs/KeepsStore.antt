@@ -3,7 +3,6 @@ use mathlib.Core.Path.{◌≡◌, refl, sym, ap, ◌∙◌, subst}
 use mathlib.Core.Logic.{◌≢◌}
 use mathlib.Core.Bool.{Bool, true, false, cond}
 use mathlib.Core.List.{List, [], ◌∷◌, ◌++◌, map}
-use mathlib.Core.Option.{Option, none, some}
 use Prim.Native.Nat.{ℕ, zero, suc, ◌+◌, ◌*◌, ◌≤◌, ◌<◌}
 use native.Mathlib.Omega.{arith}
 use native.Mathlib.Nat.{suc-ne-zero, not-suc-le-zero, zero-add, suc-add}
@@ -12,6 +11,7 @@ use lib.Dec.{eqb}
 use lib.ListN.{length, get_or, set, take, drop, length-set}
 use lib.Seq.{map-set_same}
 use borrow.Author.Tests.{eq-eqb, ne_eqb, lt-ltb}
+use Rattle.std.specs.Prelude.{Option, Some, None}
 use Rattle.words.specs.Words.{word, block_at, Store, lay, bytes_to}
 use Rattle.words.proofs.All.{All, done, all_take, all_map}
 use Rattle.words.proofs.Lists.{lay-length}
@@ -23,14 +23,13 @@ use Rattle.rules.specs.declared.Phase.{Phase}
 use Rattle.rules.specs.declared.Phase.TheVariants.{Running, Writing, Off}
 use Rattle.rules.specs.declared.State.{State}
 use Rattle.rules.specs.declared.State.TheVariants.{Clean, Dirty, Hidden, PreHidden, PreDirty}
-use Rattle.rules.specs.declared.Lookup.{Lookup}
-use Rattle.rules.specs.declared.Lookup.TheVariants.{Entry, Nothing}
+use Rattle.rules.specs.declared.Entry.{Entry}
 use Rattle.rules.specs.declared.Place.{Place}
 use Rattle.rules.specs.declared.Place.TheVariants.{Home, Checkpoint, Cache}
 use Rattle.rules.specs.declared.Window.{Window}
 use Rattle.rules.specs.declared.Number.TheVariants as No
 use Rattle.rules.specs.Geometry.{home_block, checkpoint_block}
-use Rattle.rules.specs.TableWords.{word_of, names, says, lookup, lowest_free, entry_or, changed}
+use Rattle.rules.specs.TableWords.{entry_at, word_of, names, says, lookup, lowest_free, entry_or, changed}
 use Rattle.rules.specs.Board.{Board, Volatile, sizes, phase_of, cache_of, table_of}
 use Rattle.rules.specs.Numbers.{number_of, Check, ◌⇒◌, is_off, while_writing, allows, well_said, well_formed, out_of_range}
 use Rattle.rules.specs.Power.{Plan, carry}
@@ -52,12 +51,13 @@ use Rattle.rules.proofs.Replaced.{length-replaced}
 use Rattle.rules.proofs.Windows.{window_stores}
 use Rattle.rules.proofs.LaidAt.{memory_cache, memory_with, cache_with, stores_at, Room, Whole, spot_laid, spot_other, window_covers, row_whole}
 use Rattle.rules.proofs.Invariant.{standing, Live, Drafted, Mode, mode_running, mode_writing, mode_off, Inv, Keeps, k_refuse, k_carry, did_not, no_mark, note_unmarked, note_loose, guarded, stopped}
+use Rattle.rules.proofs.EntryCases.{same_slot, Case, nothing, in_slot, case_of}
 
 -- ---- the slot that a store takes
 
 pub data Sits (block : ℕ) (table : List ℕ) (slot : ℕ) : Type 0 where
-  old : {state : State} → Finds block table (Entry slot state) → Sits block table slot
-  new : Finds block table Nothing → Vacant table slot → Sits block table slot
+  old : {state : State} → Finds block table (entry_at slot state) → Sits block table slot
+  new : Finds block table None → Vacant table slot → Sits block table slot
 
 sits_lt : {block slot : ℕ} {table : List ℕ} → Sits block table slot → slot < length table
 sits_lt (old l) = found_lt l
@@ -68,7 +68,7 @@ sits_skips {block} {slot} {table} (old {state = state} l) k ne = skip_names k (g
 sits_skips {block} {slot} {table} (new l v) k ne = skip_free k (get_or table slot 0) (vacant_at v)
 
 sits_here : {block slot : ℕ} {table : List ℕ} (word : ℕ) (next : State) → Sits block table slot → says word ≡ names block next
-    → Finds block (set table slot word) (Entry slot next)
+    → Finds block (set table slot word) (entry_at slot next)
 sits_here word next (old l) e = set_same word next l e
 sits_here {slot = slot} word next (new l v) e = set_new slot word next l (vacant_lt v) e
 
@@ -78,7 +78,7 @@ sits_apart word next a (old l) e = apart_same word next a l e
 sits_apart {slot = slot} word next a (new l v) e = apart_new slot word next a l (vacant_lt v) e
 
 -- another block is not at this slot
-sits_other : {block slot i k : ℕ} {table : List ℕ} {state : State} → Sits block table slot → k ≢ block → Finds k table (Entry i state) → i ≢ slot
+sits_other : {block slot i k : ℕ} {table : List ℕ} {state : State} → Sits block table slot → k ≢ block → Finds k table (entry_at i state) → i ≢ slot
 sits_other {block} {slot} {i} {k} {table} {state} s ne r e =
     (sits_skips s k ne).never state (subst (λ (n : ℕ). says (get_or table n 0) ≡ names k state) e (found_at r))
 
@@ -100,10 +100,10 @@ spots_apart g k block i slot Cache Cache lk lb ne ns e = ns (cc)
 
 -- the block that is stored goes nowhere where another block shows
 spot_apart : (g : Geometry) (k block slot : ℕ) (table : List ℕ) (p : Place) → Sits block table slot → k < g.blocks → block < g.blocks → k ≢ block
-    → (r : Lookup) → Finds k table r → spot_of g k r ≢ spot_in g block slot p
+    → (r : Option Entry) → Finds k table r → spot_of g k r ≢ spot_in g block slot p
 unfolding spot_of spot_in
-spot_apart g k block slot table p s lk lb ne Nothing l = spots_apart g k block (suc slot) slot Home p lk lb ne (λ e. omega arith)
-spot_apart g k block slot table p s lk lb ne (Entry i state) l = spots_apart g k block i slot (shows state) p lk lb ne (sits_other s ne l)
+spot_apart g k block slot table p s lk lb ne None l = spots_apart g k block (suc slot) slot Home p lk lb ne (λ e. omega arith)
+spot_apart g k block slot table p s lk lb ne (Some entry) l = spots_apart g k block entry.slot slot (shows entry.state) p lk lb ne (sits_other s ne l)
 
 -- ---- what shows after a store
 
@@ -152,44 +152,45 @@ module _ (g : Geometry) (allowed : State → Bool) (memory cache table : List �
 
 module _ (next : State → Option State) (g : Geometry) (table : List ℕ) where
   -- HOME of a block whose copy is in CHECKPOINT
-  pub home_loose : (block slot : ℕ) (state after : State) → Apart table → block < g.blocks → Finds block table (Entry slot state) → next state ≡ some after
+  pub home_loose : (block slot : ℕ) (state after : State) → Apart table → block < g.blocks → Finds block table (entry_at slot state) → next state ≡ Some after
       → (k : ℕ) → k < g.blocks → saved_block g (map (changed next) table) k ≢ home_block g block
   unfolding saved_block saved_by found found_or
   home_loose block slot state after a h l e k hk = go (lookup k (map (changed next) table)) refl
     where
-      there : lookup block (map (changed next) table) ≡ Entry slot after
+      there : lookup block (map (changed next) table) ≡ entry_at slot after
       there = finds_lookup (changed_finds next a l) ∙ ap (found_or slot) e
 
-      go : (r : Lookup) → lookup k (map (changed next) table) ≡ r → saved_by g k r ≢ block
-      go Nothing q z = nothing_entry slot after (sym q ∙ subst (λ (n : ℕ). lookup n (map (changed next) table) ≡ Entry slot after) (sym z) there)
-      go (Entry i d) q z = omega arith
+      go : (r : Option Entry) → lookup k (map (changed next) table) ≡ r → saved_by g k r ≢ block
+      go None q z = nothing_entry slot after (sym q ∙ subst (λ (n : ℕ). lookup n (map (changed next) table) ≡ entry_at slot after) (sym z) there)
+      go (Some entry) q z = omega arith
 
   -- CHECKPOINT of a slot that is free there
   pub slot_loose : (slot : ℕ) → changed next (get_or table slot 0) ≡ 0 → (k : ℕ) → k < g.blocks → saved_block g (map (changed next) table) k ≢ checkpoint_block g slot
   unfolding saved_block saved_by
   slot_loose slot u k hk = go (lookup k (map (changed next) table)) (finds k (map (changed next) table))
     where
-      go : (r : Lookup) → Finds k (map (changed next) table) r → saved_by g k r ≢ g.blocks + slot
-      go Nothing l q = omega arith
-      go (Entry i d) l q =
-          let e : i ≡ slot = omega arith in
+      go : (r : Option Entry) → Finds k (map (changed next) table) r → saved_by g k r ≢ g.blocks + slot
+      go None l q = omega arith
+      go (Some entry) l q =
+          let d = entry.state in
+          let e : entry.slot ≡ slot = omega arith in
           let r : says (get_or (map (changed next) table) slot 0) ≡ names k d = subst (λ (x : ℕ). says (get_or (map (changed next) table) x 0) ≡ names k d) e (found_at l) in
           let z : says 0 ≡ names k d = subst (λ (x : ℕ). says x ≡ names k d) (changed_get next table slot ∙ u) r in
           (skip_free k 0 says_zero).never d z
 
   -- the word of a slot counts for the same there before and after the store
-  pub same_old : (block slot : ℕ) (state after : State) → Finds block table (Entry slot state) → next after ≡ next state
+  pub same_old : (block slot : ℕ) (state after : State) → Finds block table (entry_at slot state) → next after ≡ next state
       → changed next (word_of block after) ≡ changed next (get_or table slot 0)
   same_old block slot state after l e =
       changed_entry next (word_of block after) block after (says_word block after)
       ∙ ap (entry_or block) e
       ∙ sym (changed_entry next (get_or table slot 0) block state (found_at l))
 
-  pub gone_old : (block slot : ℕ) (state : State) → Finds block table (Entry slot state) → next state ≡ none → changed next (get_or table slot 0) ≡ 0
+  pub gone_old : (block slot : ℕ) (state : State) → Finds block table (entry_at slot state) → next state ≡ None → changed next (get_or table slot 0) ≡ 0
   unfolding entry_or
   gone_old block slot state l e = changed_entry next (get_or table slot 0) block state (found_at l) ∙ ap (entry_or block) e
 
-  pub gone_new : (block : ℕ) (after : State) → next after ≡ none → changed next (word_of block after) ≡ 0
+  pub gone_new : (block : ℕ) (after : State) → next after ≡ None → changed next (word_of block after) ≡ 0
   unfolding entry_or
   gone_new block after e = changed_entry next (word_of block after) block after (says_word block after) ∙ ap (entry_or block) e
 
@@ -325,41 +326,41 @@ module _ (board : Board) (plain : Plain) (v : Inv board plain) (block offset : �
       phase_of board ≡ Running
       → v.keeps ≡ map (changed standing) table
       → Live g (allows Running) board.memory (cache_of board) table plain.live
-      → (r : Lookup)
+      → (r : Option Entry)
       → Finds block table r
       → (z : Option ℕ)
       → VacantAt table z
       → Keeps board plain (store block offset bytes) (moved_to board block (slot_for r z) fresh (window_for (is_short Running r) offset (length bytes)) (stores r).running)
   unfolding moved_to moved lay_at slot_for stores move_in standing number_of spot_in allows seen visible Room Whole stores_at memory_with cache_with
-  while_running ph be sh = go
+  while_running ph be sh r = go (case_of r)
     where
-      window : Lookup → Window
+      window : Option Entry → Window
       window r = window_for (is_short Running r) offset (length bytes)
 
-      few : (r : Lookup) → (window r).first + (window r).count ≤ 8
+      few : (r : Option Entry) → (window r).first + (window r).count ≤ 8
       few r = (window_covers (is_short Running r) offset (length bytes) fits).few
 
       room : (q : ℕ) → q < g.blocks + g.slots → 64 * q + 64 ≤ length board.memory
       room q h = omega (arith, v.lent.memory)
 
-      whole : (r : Lookup) → Finds block table r → (slot : ℕ) (place : Place) (state : State) → (stores r).running ≡ to place state → ((i : ℕ) (s : State) → r ≡ Entry i s → i ≡ slot)
+      whole : (r : Option Entry) → Finds block table r → (slot : ℕ) (place : Place) (state : State) → (stores r).running ≡ to place state → ((i : ℕ) (s : State) → r ≡ entry_at i s → i ≡ slot)
           → Room board.memory (cache_of board) (spot_in g block slot place) → Whole board.memory fresh (window r) (spot_in g block slot place)
       whole r l slot place state m e h =
           subst (λ (z : List ℕ). Whole board.memory z (window r) (spot_in g block slot place))
-          (sym (made ∙ ap (λ (z : Lookup). replaced (block_in board.memory (cache_of board) (spot_of g block z)) offset bytes) (finds_lookup l)))
+          (sym (made ∙ ap (λ (z : Option Entry). replaced (block_in board.memory (cache_of board) (spot_of g block z)) offset bytes) (finds_lookup l)))
           (row_whole g board.memory (cache_of board) block offset bytes Running r slot place state m e h fits)
 
-      to_home : (slot : ℕ) (state : State) → Finds block table (Entry slot state) → standing state ≡ some Clean → (stores (Entry slot state)).running ≡ to Home Hidden
-          → Keeps board plain (store block offset bytes) (moved board block slot fresh (window (Entry slot state)) (to Home Hidden))
+      to_home : (slot : ℕ) (state : State) → Finds block table (entry_at slot state) → standing state ≡ Some Clean → (stores (entry_at slot state)).running ≡ to Home Hidden
+          → Keeps board plain (store block offset bytes) (moved board block slot fresh (window (entry_at slot state)) (to Home Hidden))
       to_home slot state l e m =
           let rm : 64 * block + 64 ≤ length board.memory = room block (omega arith) in
           running_store slot block Hidden ph be (omega arith) (home_loose standing g table block slot state Clean sh.apart lt l e)
           (same_old standing g table block slot state Hidden l (sym e))
           (live_stored g (allows Running) board.memory (cache_of board) table plain.live block slot Hidden fresh sh (old l) lt refl eight rm)
-          (window (Entry slot state)) (few (Entry slot state)) (whole (Entry slot state) l slot Home Hidden m (λ i s q. cc) rm)
+          (window (entry_at slot state)) (few (entry_at slot state)) (whole (entry_at slot state) l slot Home Hidden m (λ i s q. same_slot q) rm)
 
-      to_checkpoint : (r : Lookup) → Finds block table r → (slot : ℕ) → Sits block table slot → changed standing (get_or table slot 0) ≡ 0
-          → (stores r).running ≡ to Checkpoint Dirty → ((i : ℕ) (s : State) → r ≡ Entry i s → i ≡ slot)
+      to_checkpoint : (r : Option Entry) → Finds block table r → (slot : ℕ) → Sits block table slot → changed standing (get_or table slot 0) ≡ 0
+          → (stores r).running ≡ to Checkpoint Dirty → ((i : ℕ) (s : State) → r ≡ entry_at i s → i ≡ slot)
           → Keeps board plain (store block offset bytes) (moved board block slot fresh (window r) (to Checkpoint Dirty))
       to_checkpoint r l slot q u m e =
           let ls : g.blocks + slot < g.blocks + g.slots = omega (arith, sits_lt q, v.lent.table) in
@@ -368,29 +369,29 @@ module _ (board : Board) (plain : Plain) (v : Inv board plain) (block offset : �
           (live_stored g (allows Running) board.memory (cache_of board) table plain.live block slot Dirty fresh sh q lt refl eight rm)
           (window r) (few r) (whole r l slot Checkpoint Dirty m e rm)
 
-      go : (r : Lookup) → Finds block table r → (z : Option ℕ) → VacantAt table z
+      go : {r : Option Entry} → Case r → Finds block table r → (z : Option ℕ) → VacantAt table z
           → Keeps board plain (store block offset bytes) (moved_to board block (slot_for r z) fresh (window r) (stores r).running)
-      go Nothing l none u = k_refuse (suc-ne-zero 6)
-      go Nothing l (some slot) u =
-          to_checkpoint Nothing l slot (new l u) (changed_free standing (get_or table slot 0) (vacant_at u)) refl (λ i s q. absurd (nothing_entry i s q))
-      go (Entry slot Clean) l z u = to_home slot Clean l refl refl
-      go (Entry slot Dirty) l z u = to_checkpoint (Entry slot Dirty) l slot (old l) (gone_old standing g table block slot Dirty l refl) refl (λ i s q. cc)
-      go (Entry slot Hidden) l z u = to_home slot Hidden l refl refl
-      go (Entry slot PreHidden) l z u = to_home slot PreHidden l refl refl
-      go (Entry slot PreDirty) l z u = to_checkpoint (Entry slot PreDirty) l slot (old l) (gone_old standing g table block slot PreDirty l refl) refl (λ i s q. cc)
+      go nothing l None u = k_refuse (suc-ne-zero 6)
+      go nothing l (Some slot) u =
+          to_checkpoint None l slot (new l u) (changed_free standing (get_or table slot 0) (vacant_at u)) refl (λ i s q. absurd (nothing_entry i s q))
+      go (in_slot slot Clean) l z u = to_home slot Clean l refl refl
+      go (in_slot slot Dirty) l z u = to_checkpoint (entry_at slot Dirty) l slot (old l) (gone_old standing g table block slot Dirty l refl) refl (λ i s q. same_slot q)
+      go (in_slot slot Hidden) l z u = to_home slot Hidden l refl refl
+      go (in_slot slot PreHidden) l z u = to_home slot PreHidden l refl refl
+      go (in_slot slot PreDirty) l z u = to_checkpoint (entry_at slot PreDirty) l slot (old l) (gone_old standing g table block slot PreDirty l refl) refl (λ i s q. same_slot q)
 
   -- the rows of the column Writing
   while_writing_lem : (count : ℕ)
       → phase_of board ≡ Writing count
       → Live g while_writing board.memory (cache_of board) table plain.live
       → Drafted g board.memory table board.volatile.controller.registers board.volatile.controller.finished count plain.on_its_way
-      → (r : Lookup)
+      → (r : Option Entry)
       → Finds block table r
       → (z : Option ℕ)
       → VacantAt table z
       → Keeps board plain (store block offset bytes) (moved_to board block (slot_for r z) fresh (window_for (is_short (Writing count) r) offset (length bytes)) (stores r).writing)
   unfolding moved_to moved lay_at slot_for stores is_short window_for saved number_of spot_in while_writing Room memory_with cache_with
-  while_writing_lem count ph sh dr = go
+  while_writing_lem count ph sh dr r = go (case_of r)
     where
       to_cache : (slot : ℕ) (next : State) → Sits block table slot
           → changed saved (word_of block next) ≡ changed saved (get_or table slot 0)
@@ -401,7 +402,7 @@ module _ (board : Board) (plain : Plain) (v : Inv board plain) (block offset : �
       room : (slot : ℕ) → Sits block table slot → 64 * slot + 64 ≤ length (cache_of board)
       room slot q = omega (arith, sits_lt q, v.lent.table, v.lent.cache)
 
-      to_pre_hidden : (slot : ℕ) (state : State) → Finds block table (Entry slot state) → saved state ≡ some Clean
+      to_pre_hidden : (slot : ℕ) (state : State) → Finds block table (entry_at slot state) → saved state ≡ Some Clean
           → Keeps board plain (store block offset bytes) (moved board block slot fresh all (to Cache PreHidden))
       to_pre_hidden slot state l e =
           to_cache slot PreHidden (old l) (same_old saved g table block slot state PreHidden l (sym e))
@@ -414,15 +415,15 @@ module _ (board : Board) (plain : Plain) (v : Inv board plain) (block offset : �
           (live_stored g while_writing board.memory (cache_of board) table plain.live block slot PreDirty fresh sh q lt refl eight (room slot q))
 
       -- the rows that are not well formed are not met
-      go : (r : Lookup) → Finds block table r → (z : Option ℕ) → VacantAt table z
+      go : {r : Option Entry} → Case r → Finds block table r → (z : Option ℕ) → VacantAt table z
           → Keeps board plain (store block offset bytes) (moved_to board block (slot_for r z) fresh (window_for (is_short (Writing count) r) offset (length bytes)) (stores r).writing)
-      go Nothing l none u = k_refuse (suc-ne-zero 6)
-      go Nothing l (some slot) u = to_pre_dirty slot (new l u) (changed_free saved (get_or table slot 0) (vacant_at u))
-      go (Entry slot Clean) l z u = to_pre_hidden slot Clean l refl
-      go (Entry slot Dirty) l z u = k_refuse (suc-ne-zero 4)
-      go (Entry slot Hidden) l z u = k_refuse (suc-ne-zero 4)
-      go (Entry slot PreHidden) l z u = to_pre_hidden slot PreHidden l refl
-      go (Entry slot PreDirty) l z u = to_pre_dirty slot (old l) (gone_old saved g table block slot PreDirty l refl)
+      go nothing l None u = k_refuse (suc-ne-zero 6)
+      go nothing l (Some slot) u = to_pre_dirty slot (new l u) (changed_free saved (get_or table slot 0) (vacant_at u))
+      go (in_slot slot Clean) l z u = to_pre_hidden slot Clean l refl
+      go (in_slot slot Dirty) l z u = k_refuse (suc-ne-zero 4)
+      go (in_slot slot Hidden) l z u = k_refuse (suc-ne-zero 4)
+      go (in_slot slot PreHidden) l z u = to_pre_hidden slot PreHidden l refl
+      go (in_slot slot PreDirty) l z u = to_pre_dirty slot (old l) (gone_old saved g table block slot PreDirty l refl)
 
 -- ---- the visible block has 64 bytes
 
@@ -438,9 +439,9 @@ seen-length board l block h = go (lookup block (table_of board)) (finds block (t
     at slot Checkpoint ls = length_block board.memory (g.blocks + slot) (omega (arith, l.memory))
     at slot Cache ls = length_block (cache_of board) slot (omega (arith, l.cache))
 
-    go : (r : Lookup) → Finds block (table_of board) r → length (block_in board.memory (cache_of board) (spot_of g block r)) ≡ 64
-    go Nothing f = length_block board.memory block (omega (arith, l.memory))
-    go (Entry slot state) f = at slot (shows state) (omega (arith, found_lt f, l.table))
+    go : (r : Option Entry) → Finds block (table_of board) r → length (block_in board.memory (cache_of board) (spot_of g block r)) ≡ 64
+    go None f = length_block board.memory block (omega (arith, l.memory))
+    go (Some entry) f = at entry.slot (shows entry.state) (omega (arith, found_lt f, l.table))
 
 pub store_keeps : (board : Board) (plain : Plain) → Inv board plain → (block offset : ℕ) (bytes : List ℕ)
     → Keeps board plain (store block offset bytes) (store_plan board block offset bytes)

@@ -19,9 +19,8 @@ use Rattle.rules.specs.declared.Geometry.{Geometry}
 use Rattle.rules.specs.declared.Phase.{Phase}
 use Rattle.rules.specs.declared.Phase.TheVariants.{Running}
 use Rattle.rules.specs.declared.State.TheVariants.{Clean, Hidden}
-use Rattle.rules.specs.declared.Lookup.TheVariants.{Entry}
 use Rattle.rules.specs.Geometry.{home_block, checkpoint_block, mark_start}
-use Rattle.rules.specs.TableWords.{word_of}
+use Rattle.rules.specs.TableWords.{entry_at, word_of}
 use Rattle.rules.specs.Board.{Board, sizes, phase_of, cache_of, table_of}
 use Rattle.rules.specs.Numbers.{is_off}
 use Rattle.rules.specs.Power.{carry, switched_off}
@@ -96,7 +95,7 @@ running_open board plain v ph =
     }
 
 module _ (board : Board) (plain : Plain) (v : Inv board plain) (ph : phase_of board ≡ Running) (slot block : ℕ)
-    (found : Finds block (table_of board) (Entry slot Clean)) (below : block < (sizes board).blocks) where
+    (found : Finds block (table_of board) (entry_at slot Clean)) (below : block < (sizes board).blocks) where
   abbrev g : Geometry
   g = sizes board
 

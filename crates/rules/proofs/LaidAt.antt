@@ -3,10 +3,10 @@ use mathlib.Core.Path.{◌≡◌, refl, sym, ap, ◌∙◌, subst}
 use mathlib.Core.Logic.{◌≢◌}
 use mathlib.Core.Bool.{Bool, true, false}
 use mathlib.Core.List.{List, []}
-use mathlib.Core.Option.{Option, some}
 use Prim.Native.Nat.{ℕ, ◌+◌, ◌*◌, ◌≤◌}
 use native.Mathlib.Omega.{arith}
 use lib.ListN.{length}
+use Rattle.std.specs.Prelude.{Option, Some}
 use Rattle.words.specs.Words.{Store, lay, bytes_to}
 use Rattle.words.proofs.Blocks.{block_laid, block_laid_other}
 use Rattle.rules.specs.declared.Geometry.{Geometry}
@@ -14,8 +14,8 @@ use Rattle.rules.specs.declared.Phase.{Phase}
 use Rattle.rules.specs.declared.Phase.TheVariants.{Running, Writing, Off}
 use Rattle.rules.specs.declared.State.{State}
 use Rattle.rules.specs.declared.State.TheVariants.{Clean, Dirty, Hidden, PreHidden, PreDirty}
-use Rattle.rules.specs.declared.Lookup.{Lookup}
-use Rattle.rules.specs.declared.Lookup.TheVariants.{Entry, Nothing}
+use Rattle.rules.specs.declared.Entry.{Entry}
+use Rattle.rules.specs.TableWords.{entry_at}
 use Rattle.rules.specs.declared.Place.{Place}
 use Rattle.rules.specs.declared.Window.{Window}
 use Rattle.rules.specs.Board.{Board, cache_of}
@@ -24,6 +24,7 @@ use Rattle.rules.specs.Loads.{Spot, in_memory, in_cache, spot_in, shows, spot_of
 use Rattle.rules.specs.Stores.{replaced, to, stores, move_in, slot_for, all, touched, dirty_or_hidden, is_short, window_for, window_to, lay_at}
 use Rattle.rules.proofs.Clashes.{false_true}
 use Rattle.rules.proofs.Windows.{Covers, all_covers, touched_covers, window_all, window_whole}
+use Rattle.rules.proofs.EntryCases.{Case, nothing, in_slot, case_of}
 
 pub memory_cache : (q i : ℕ) → in_memory q ≡ in_cache i → ⊥
 memory_cache q i e = let z : ◌≡◌ {A = ℕ} 0 1 = cc in omega arith
@@ -91,37 +92,40 @@ shown_whole memory cache (in_memory q) offset bytes window room fits c = window_
 shown_whole memory cache (in_cache q) offset bytes window room fits c = refl
 
 -- what the lookup found is at the slot taken
-pub found_taken : (found : Lookup) (lowest : Option ℕ) (slot : ℕ) → slot_for found lowest ≡ some slot → (i : ℕ) (s : State) → found ≡ Entry i s → i ≡ slot
+pub found_taken : (found : Option Entry) (lowest : Option ℕ) (slot : ℕ) → slot_for found lowest ≡ Some slot → (i : ℕ) (s : State) → found ≡ entry_at i s → i ≡ slot
 unfolding slot_for
-found_taken found lowest slot e i s q = let t : slot_for (Entry i s) lowest ≡ some slot = ap (λ (x : Lookup). slot_for x lowest) (sym q) ∙ e in cc
+found_taken found lowest slot e i s q = let t : slot_for (entry_at i s) lowest ≡ Some slot = ap (λ (x : Option Entry). slot_for x lowest) (sym q) ∙ e in cc
 
 -- what holds of dirty and of hidden while Running holds of every store that is short
-pub short_only : (P : Phase → Lookup → Type 0) → ((i : ℕ) → P Running (Entry i Dirty)) → ((i : ℕ) → P Running (Entry i Hidden))
-    → (phase : Phase) (found : Lookup) → is_short phase found ≡ true → P phase found
+pub short_only : (P : Phase → Option Entry → Type 0) → ((i : ℕ) → P Running (entry_at i Dirty)) → ((i : ℕ) → P Running (entry_at i Hidden))
+    → (phase : Phase) (found : Option Entry) → is_short phase found ≡ true → P phase found
 unfolding is_short dirty_or_hidden
-short_only P d h Running Nothing e = absurd (false_true e)
-short_only P d h Running (Entry i Clean) e = absurd (false_true e)
-short_only P d h Running (Entry i Dirty) e = d i
-short_only P d h Running (Entry i Hidden) e = h i
-short_only P d h Running (Entry i PreHidden) e = absurd (false_true e)
-short_only P d h Running (Entry i PreDirty) e = absurd (false_true e)
-short_only P d h (Writing count) found e = absurd (false_true e)
-short_only P d h Off found e = absurd (false_true e)
+short_only P d h phase found = go phase (case_of found)
+  where
+    go : (phase : Phase) {found : Option Entry} → Case found → is_short phase found ≡ true → P phase found
+    go Running nothing e = absurd (false_true e)
+    go Running (in_slot i Clean) e = absurd (false_true e)
+    go Running (in_slot i Dirty) e = d i
+    go Running (in_slot i Hidden) e = h i
+    go Running (in_slot i PreHidden) e = absurd (false_true e)
+    go Running (in_slot i PreDirty) e = absurd (false_true e)
+    go (Writing count) c e = absurd (false_true e)
+    go Off c e = absurd (false_true e)
 
 -- a block that is stored short goes where it shows
-pub short_shown : (g : Geometry) (block slot : ℕ) (phase : Phase) (found : Lookup) (place : Place) (state : State)
-    → is_short phase found ≡ true → move_in phase (stores found) ≡ to place state → ((i : ℕ) (s : State) → found ≡ Entry i s → i ≡ slot)
+pub short_shown : (g : Geometry) (block slot : ℕ) (phase : Phase) (found : Option Entry) (place : Place) (state : State)
+    → is_short phase found ≡ true → move_in phase (stores found) ≡ to place state → ((i : ℕ) (s : State) → found ≡ entry_at i s → i ≡ slot)
     → spot_of g block found ≡ spot_in g block slot place
 unfolding move_in stores spot_of
 short_shown g block slot phase found place state h =
-    short_only (λ phase found. move_in phase (stores found) ≡ to place state → ((i : ℕ) (s : State) → found ≡ Entry i s → i ≡ slot) → spot_of g block found ≡ spot_in g block slot place)
+    short_only (λ phase found. move_in phase (stores found) ≡ to place state → ((i : ℕ) (s : State) → found ≡ entry_at i s → i ≡ slot) → spot_of g block found ≡ spot_in g block slot place)
     (λ i m e. there i Dirty (cc) (e i Dirty refl)) (λ i m e. there i Hidden (cc) (e i Hidden refl)) phase found h
   where
     there : (i : ℕ) (s : State) → shows s ≡ place → i ≡ slot → spot_in g block i (shows s) ≡ spot_in g block slot place
     there i s p q = ap (spot_in g block i) p ∙ ap (λ (z : ℕ). spot_in g block z place) q
 
-pub row_whole : (g : Geometry) (memory cache : List ℕ) (block offset : ℕ) (bytes : List ℕ) (phase : Phase) (found : Lookup) (slot : ℕ) (place : Place) (state : State)
-    → move_in phase (stores found) ≡ to place state → ((i : ℕ) (s : State) → found ≡ Entry i s → i ≡ slot)
+pub row_whole : (g : Geometry) (memory cache : List ℕ) (block offset : ℕ) (bytes : List ℕ) (phase : Phase) (found : Option Entry) (slot : ℕ) (place : Place) (state : State)
+    → move_in phase (stores found) ≡ to place state → ((i : ℕ) (s : State) → found ≡ entry_at i s → i ≡ slot)
     → Room memory cache (spot_in g block slot place) → offset + length bytes ≤ 64
     → Whole memory (replaced (block_in memory cache (spot_of g block found)) offset bytes) (window_for (is_short phase found) offset (length bytes)) (spot_in g block slot place)
 unfolding window_for

@@ -1,6 +1,7 @@
 pub mod Clashes
 pub mod TableWordLaws
 pub mod Finding
+pub mod EntryCases
 pub mod Apart
 pub mod Changing
 pub mod FreeSlot

@@ -3,20 +3,19 @@ use mathlib.Core.Path.{◌≡◌, refl, sym, ap, ◌∙◌, subst}
 use mathlib.Core.Logic.{◌≢◌, ◌↔◌}
 use mathlib.Core.Bool.{Bool, true, false, cond}
 use mathlib.Core.List.{List, [], ◌∷◌}
-use mathlib.Core.Option.{Option, none, some}
 use Prim.Native.Nat.{ℕ, zero, suc, ◌<◌}
 use native.Mathlib.Omega.{arith}
 use native.Mathlib.Nat.{suc-ne-zero}
 use lib.Dec.{eqb, leb}
 use lib.ListN.{length, get_or, set, take}
 use borrow.Author.Tests.{eqb-true, leb-false}
+use Rattle.std.specs.Prelude.{Option, Some, None}
 use Rattle.words.specs.Words.{word, Store, lay, number}
 use Rattle.words.proofs.All.{All}
 use Rattle.rules.specs.declared.Geometry.{Geometry}
 use Rattle.rules.specs.declared.Backup.{Backup}
 use Rattle.rules.specs.declared.State.{State}
-use Rattle.rules.specs.declared.Lookup.{Lookup}
-use Rattle.rules.specs.declared.Lookup.TheVariants.{Entry, Nothing}
+use Rattle.rules.specs.declared.Entry.{Entry}
 use Rattle.rules.specs.declared.Place.{Place}
 use Rattle.rules.specs.declared.Place.TheVariants.{Home, Checkpoint, Cache}
 use Rattle.rules.specs.declared.Window.{Window}
@@ -34,7 +33,7 @@ use Rattle.rules.specs.Sweeps.{sweep_number, sweep_plan}
 use Rattle.rules.specs.Starts.{format_list, format_number, format_plan, finished_in, recover_number, recover_from, recover_plan}
 use Rattle.rules.specs.Calls.{Call, load, peek, store, begin, step, format, recover, sweep, plan, call}
 use Rattle.rules.specs.Promises.{NoEntry, NoneFree, FullExactly, StoreLeaves, RecoveryLeaves, Leaves, StatesMove, CutFormat}
-use Rattle.rules.proofs.Clashes.{none_some, or_false}
+use Rattle.rules.proofs.Clashes.{none_slot, or_false}
 use Rattle.rules.proofs.TableWordLaws.{says_word, says_zero, names_word, free_word}
 use Rattle.rules.proofs.Finding.{Finds, finds, found_at, found_lt, not_found}
 use Rattle.rules.proofs.Changing.{all_get}
@@ -93,21 +92,21 @@ full_exactly p board block offset bytes e =
     window : Window
     window = window_for (is_short (phase_of board) (lookup block table)) offset (length bytes)
 
-    answer : Lookup → Option ℕ → ℕ
+    answer : Option Entry → Option ℕ → ℕ
     answer r z = number_of (settle p board (guard (cond (full (slot_for r z)) No.Full No.Done) (moved_to board block (slot_for r z) fresh window move))).number
 
-    no_entry : Finds block table Nothing → NoEntry block table
+    no_entry : Finds block table None → NoEntry block table
     no_entry f slot state lt q = (not_found slot f).never state (ap says q ∙ says_word block state)
 
     none_free : All (λ w. says w ≢ free) table → NoneFree table
     none_free a slot lt q = all_get slot a lt (ap says q ∙ says_zero)
 
-    go : (r : Lookup) → Finds block table r → (z : Option ℕ) → VacantAt table z → (answer r z ≡ 7) ↔ (NoEntry block table × NoneFree table)
-    go Nothing f none v = (λ h. (no_entry f, none_free v), λ h. refl)
-    go Nothing f (some slot) v =
+    go : (r : Option Entry) → Finds block table r → (z : Option ℕ) → VacantAt table z → (answer r z ≡ 7) ↔ (NoEntry block table × NoneFree table)
+    go None f None v = (λ h. (no_entry f, none_free v), λ h. refl)
+    go None f (Some slot) v =
         (λ h. absurd (moved_not_full p board block slot fresh window move h), λ h. absurd (h.1 slot (vacant_lt v) (free_word (get_or table slot 0) (vacant_at v))))
-    go (Entry slot state) f z v =
-        (λ h. absurd (moved_not_full p board block slot fresh window move h), λ h. absurd (h.0 slot state (found_lt f) (names_word (get_or table slot 0) block state (found_at f))))
+    go (Some entry) f z v =
+        (λ h. absurd (moved_not_full p board block entry.slot fresh window move h), λ h. absurd (h.0 entry.slot entry.state (found_lt f) (names_word (get_or table entry.slot 0) block entry.state (found_at f))))
 
 -- ---- states move by the tables
 
@@ -165,7 +164,7 @@ module _ (board : Board) (block offset : ℕ) (bytes : List ℕ) where
     pub place : Place
     pub state : State
     pub moves : row ≡ to place state
-    pub takes : taken ≡ some slot
+    pub takes : taken ≡ Some slot
     pub eight : length fresh ≡ 64
     pub room : Room board.memory (cache_of board) (spot slot place)
     pub checked : number_of (store_number board block offset bytes) ≡ 0
@@ -191,22 +190,22 @@ module _ (board : Board) (block offset : ℕ) (bytes : List ℕ) where
   store_room_at l lt slot ls Checkpoint = omega (arith, l.memory)
   store_room_at l lt slot ls Cache = omega (arith, l.cache)
 
-  slot_lt : (table : List ℕ) (r : Lookup) → Finds block table r → (z : Option ℕ) → VacantAt table z → (slot : ℕ) → slot_for r z ≡ some slot → slot < length table
+  slot_lt : (table : List ℕ) (r : Option Entry) → Finds block table r → (z : Option ℕ) → VacantAt table z → (slot : ℕ) → slot_for r z ≡ Some slot → slot < length table
   unfolding slot_for
-  slot_lt table (Entry i state) f z v slot e = let q : i ≡ slot = cc in subst (λ (n : ℕ). n < length table) q (found_lt f)
-  slot_lt table Nothing f none v slot e = absurd (none_some slot e)
-  slot_lt table Nothing f (some i) v slot e = let q : i ≡ slot = cc in subst (λ (n : ℕ). n < length table) q (vacant_lt v)
+  slot_lt table (Some entry) f z v slot e = let q : entry.slot ≡ slot = cc in subst (λ (n : ℕ). n < length table) q (found_lt f)
+  slot_lt table None f None v slot e = absurd (none_slot slot e)
+  slot_lt table None f (Some i) v slot e = let q : i ≡ slot = cc in subst (λ (n : ℕ). n < length table) q (vacant_lt v)
 
   moved_stored : (p : ℕ) → number_of (store_number board block offset bytes) ≡ 0 → Lent (sizes board) board → InRange board block offset (length bytes)
       → (z : Option ℕ) → taken ≡ z → (move : Move) → row ≡ move
       → number_of (settle p board (moved_to board block z fresh window move)).number ≡ 0
       → Stored (settle p board (moved_to board block z fresh window move)).board
   unfolding moved_to moved settle number_of seen visible
-  moved_stored p n l r none q move m h = absurd (suc-ne-zero 6 h)
-  moved_stored p n l r (some slot) q not_well_formed m h = absurd (suc-ne-zero 4 h)
-  moved_stored p n l r (some slot) q (to place state) m h =
+  moved_stored p n l r None q move m h = absurd (suc-ne-zero 6 h)
+  moved_stored p n l r (Some slot) q not_well_formed m h = absurd (suc-ne-zero 4 h)
+  moved_stored p n l r (Some slot) q (to place state) m h =
       let table : List ℕ = table_of board in
-      let found : Lookup = lookup block table in
+      let found : Option Entry = lookup block table in
       let ls : slot < (sizes board).slots =
       subst (λ (k : ℕ). slot < k) l.table (slot_lt table found (finds block table) (lowest_free table) (vacant table) slot q)
       in
@@ -273,8 +272,8 @@ recovery_leaves p board g e =
   where
     go : (o : Option Backup) → finished_in g board.memory ≡ o → number_of (settle p board (recover_from board g o)).number ≡ 0
         → RecoveryLeaves board g (settle p board (recover_from board g o)).board
-    go none q h = absurd (suc-ne-zero 9 h)
-    go (some backup) q h =
+    go None q h = absurd (suc-ne-zero 9 h)
+    go (Some backup) q h =
         subst (λ (o : Outcome). RecoveryLeaves board g o.board) (sym (carry_nothing p board _ _))
         (record { backup = backup; named = q; table = refl; registers = refl; memory = refl })
 

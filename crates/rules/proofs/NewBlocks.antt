@@ -3,7 +3,7 @@ use mathlib.Core.Path.{◌≡◌, refl, sym, ap, ◌∙◌, subst}
 use mathlib.Core.Logic.{◌≢◌}
 use mathlib.Core.Bool.{Bool, true, false, cond}
 use mathlib.Core.List.{List, [], ◌∷◌}
-use mathlib.Core.Option.{none}
+use Rattle.std.specs.Prelude.{None}
 use Prim.Native.Nat.{ℕ, suc, ◌+◌, ◌≤◌, ◌<◌}
 use native.Mathlib.Omega.{arith}
 use native.Mathlib.Nat.{not-suc-le-zero}
@@ -53,9 +53,9 @@ lowest (word ∷ table) h = go (says word) refl (clean_or_not (says word)) (lowe
     go : (x : Says) → says word ≡ x → CleanOrNot x → (1 ≤ clean_in table → Lowest table) → Lowest (word ∷ table)
     go x q (is_clean_entry block) above = record { slot = 0; block = block; inside = omega arith; clean = names_word word block Clean q; first = refl }
     go x q (is_not over) above =
-        let none : one_if_clean (says word) ≡ 0 = ap one_if_clean q ∙ over.uncounted in
-        let l = above (omega (arith, none, h)) in
-        record { slot = suc l.slot; block = l.block; inside = omega (arith, l.inside); clean = l.clean; first = omega (arith, none, l.first) }
+        let uncounted : one_if_clean (says word) ≡ 0 = ap one_if_clean q ∙ over.uncounted in
+        let l = above (omega (arith, uncounted, h)) in
+        record { slot = suc l.slot; block = l.block; inside = omega (arith, l.inside); clean = l.clean; first = omega (arith, uncounted, l.first) }
 
 -- ---- boards with room
 
@@ -167,7 +167,7 @@ unfolding RoomAgain
 room_again after r = go r.done
   where
     start : Board
-    start = (runs r.events (record { board = r.board; promise = none })).board
+    start = (runs r.events (record { board = r.board; promise = None })).board
 
     l : Lowest (table_of start)
     l = lowest (table_of start) r.some_clean

@@ -2,7 +2,7 @@
 use mathlib.Core.Path.{◌≡◌, refl, sym, ap, ◌∙◌, subst}
 use mathlib.Core.Bool.{false}
 use mathlib.Core.List.{List, [], ◌∷◌, map}
-use mathlib.Core.Option.{Option, none}
+use Rattle.std.specs.Prelude.{Option, None}
 use Prim.Native.Nat.{ℕ, zero, suc}
 use lib.ListN.{take, drop}
 use Rattle.words.specs.Words.{Store}
@@ -83,7 +83,7 @@ next_to_b g from none-finished n =
     let s = from_format g from none-finished in
     let board = (run_from from).board in
     let v = s.good.inv in
-    let absent : v.registers ≡ none = v.kept.given ∙ ap (λ (z : Picture). z.registers) s.kept in
+    let absent : v.registers ≡ None = v.kept.given ∙ ap (λ (z : Picture). z.registers) s.kept in
     let named = absent_is_A (subst (λ (z : Option (List ℕ)). Kept (sizes board) board.memory board.volatile.controller.finished z v.keeps s.plain.kept) absent v.kept) in
     λ i. take n
     (drop (count_of (phase_of board))

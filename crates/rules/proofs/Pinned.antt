@@ -6,6 +6,7 @@ use Prim.Native.Nat.{ℕ, ◌+◌, ◌*◌, ◌≤◌, ◌<◌}
 use native.Mathlib.Omega.{arith}
 use native.Mathlib.Nat.{le_refl}
 use lib.ListN.{length, get_or}
+use Rattle.std.specs.Prelude.{None}
 use Rattle.words.specs.Words.{numbers_to}
 use Rattle.words.proofs.All.{All, done, also, all_map}
 use Rattle.words.proofs.Rising.{Below, in_below}
@@ -14,9 +15,8 @@ use Rattle.rules.specs.declared.Backup.{Backup}
 use Rattle.rules.specs.declared.Backup.TheVariants.{A, B}
 use Rattle.rules.specs.declared.State.{State}
 use Rattle.rules.specs.declared.State.TheVariants.{Clean, Dirty, Hidden, PreHidden, PreDirty}
-use Rattle.rules.specs.declared.Lookup.TheVariants.{Entry, Nothing}
 use Rattle.rules.specs.Geometry.{home_start, home_words, checkpoint_start, checkpoint_words, backup_start, backup_words, mark_start, memory_words, home_block, checkpoint_block}
-use Rattle.rules.specs.TableWords.{word_of, says, lookup, entry_or, changed}
+use Rattle.rules.specs.TableWords.{entry_at, word_of, says, lookup, entry_or, changed}
 use Rattle.rules.specs.Checkpoints.{begun, saved, mark_of, checkpoint_list}
 use Rattle.rules.proofs.Clashes.{free_names}
 use Rattle.rules.proofs.TableWordLaws.{says_word, says_zero, names_word}
@@ -64,14 +64,14 @@ block_starts g block slot = (omega arith, omega arith)
 -- ---- lookup takes the lowest slot
 
 -- the slot that lookup gives holds the entry's word, and no slot below it names the block
-pub lookup_lowest : (block : ℕ) (table : List ℕ) (slot : ℕ) (state : State) → lookup block table ≡ Entry slot state
+pub lookup_lowest : (block : ℕ) (table : List ℕ) (slot : ℕ) (state : State) → lookup block table ≡ entry_at slot state
     → (get_or table slot 0 ≡ word_of block state) × ((i : ℕ) → i < slot → (other : State) → get_or table i 0 ≢ word_of block other)
 lookup_lowest block table slot state e =
-    let f : Finds block table (Entry slot state) = subst (Finds block table) e (finds block table) in
+    let f : Finds block table (entry_at slot state) = subst (Finds block table) e (finds block table) in
     (names_word (get_or table slot 0) block state (found_at f), λ i h other q. (found_lowest f i h).never other (ap says q ∙ says_word block other))
 
 -- where it gives nothing, no slot names the block
-pub lookup_nothing : (block : ℕ) (table : List ℕ) → lookup block table ≡ Nothing → (slot : ℕ) (state : State) → get_or table slot 0 ≢ word_of block state
+pub lookup_nothing : (block : ℕ) (table : List ℕ) → lookup block table ≡ None → (slot : ℕ) (state : State) → get_or table slot 0 ≢ word_of block state
 lookup_nothing block table e slot state q = (not_found slot (subst (Finds block table) e (finds block table))).never state (ap says q ∙ says_word block state)
 
 -- the word 0 names no block, block 0 least of all

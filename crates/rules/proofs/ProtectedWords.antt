@@ -3,7 +3,7 @@ use mathlib.Core.Path.{◌≡◌, refl, sym, ap, ◌∙◌, subst}
 use mathlib.Core.Logic.{inl, inr, ◌↔◌}
 use mathlib.Core.Bool.{Bool, true, ◌||◌}
 use mathlib.Core.List.{List}
-use mathlib.Core.Option.{Option, some}
+use Rattle.std.specs.Prelude.{Option, Some}
 use Prim.Native.Nat.{ℕ, zero, suc, ◌+◌, ◌*◌, ◌≤◌, ◌<◌}
 use native.Mathlib.Omega.{arith}
 use native.Mathlib.Nat.{not-suc-le-zero}
@@ -54,7 +54,7 @@ some_saves g table (suc n) place s =
           (some_saves g table n place (record { block = s.block; below = omega (arith, s.below); low = s.low; high = s.high }))
     ]
 
-pub protected_exactly : (g : Geometry) (memory : List ℕ) (backup : Backup) (place : ℕ) → finished_in g memory ≡ some backup
+pub protected_exactly : (g : Geometry) (memory : List ℕ) (backup : Backup) (place : ℕ) → finished_in g memory ≡ Some backup
     → (is_protected g memory place ≡ true) ↔ Protected (scheme g) memory place
 unfolding is_protected protected_by scheme head_of head_from
 protected_exactly g memory backup place e = (λ h. there (ap (λ (o : Option Backup). protected_by g memory o place) (sym e) ∙ h), λ p. ap (λ (o : Option Backup). protected_by g memory o place) e ∙ back p)
@@ -72,7 +72,7 @@ protected_exactly g memory backup place e = (λ h. there (ap (λ (o : Option Bac
     saves = saves_block g table g.blocks place
 
     head : Head
-    head = record { finished = some backup; registers = saved_registers g memory backup; table = table }
+    head = record { finished = Some backup; registers = saved_registers g memory backup; table = table }
 
     head_eq : head_of g memory ≡ head
     head_eq = ap (head_from g memory) e

@@ -2,19 +2,18 @@
 use mathlib.Core.Path.{◌≡◌, refl, sym, ap, ◌∙◌, subst}
 use mathlib.Core.Logic.{◌≢◌, ◌⊎◌, inl, inr}
 use mathlib.Core.List.{List, [], ◌∷◌, ◌++◌, map}
-use mathlib.Core.Option.{some}
 use Prim.Native.Nat.{ℕ, zero, suc, ◌≤◌, ◌<◌}
 use native.Mathlib.Omega.{arith}
 use native.Mathlib.Nat.{not-suc-le-zero}
 use native.Mathlib.Decide.{dec_lt}
 use lib.ListN.{length, get_or, set, replicate, length-set, length-map}
+use Rattle.std.specs.Prelude.{Option, Some, None}
 use Rattle.words.proofs.All.{All, done, also}
 use Rattle.rules.specs.declared.Phase.{Phase}
 use Rattle.rules.specs.declared.Phase.TheVariants.{Writing}
 use Rattle.rules.specs.declared.State.{State}
 use Rattle.rules.specs.declared.State.TheVariants.{Clean, Dirty, Hidden, PreHidden, PreDirty}
-use Rattle.rules.specs.declared.Lookup.{Lookup}
-use Rattle.rules.specs.declared.Lookup.TheVariants.{Nothing}
+use Rattle.rules.specs.declared.Entry.{Entry}
 use Rattle.rules.specs.declared.Place.TheVariants.{Cache}
 use Rattle.rules.specs.TableWords.{word_of, Says, free, names, neither, says, lookup, lowest_free, entry_or, changed_by, changed}
 use Rattle.rules.specs.Board.{Board, phase_of, table_of}
@@ -199,10 +198,10 @@ empty_table board after p₁ p₂ p₃ p₄ all₁ all₂ registers₁ registers
 
 -- ---- the slot is taken again
 
-no_entry_found : (block : ℕ) (table : List ℕ) → NoEntry block table → lookup block table ≡ Nothing
+no_entry_found : (block : ℕ) (table : List ℕ) → NoEntry block table → lookup block table ≡ None
 unfolding NoEntry
-no_entry_found block table none-there =
-    finds_lookup (finds_nothing block table (λ i h. record { never = λ state e. none-there i state h (names_word (get_or table i 0) block state e) }))
+no_entry_found block table none_there =
+    finds_lookup (finds_nothing block table (λ i h. record { never = λ state e. none_there i state h (names_word (get_or table i 0) block state e) }))
 
 -- a free slot that a store takes while Writing
 module _ (board : Board) (slot : ℕ) (inside : slot < length (table_of board)) (room : get_or (table_of board) slot 0 ≡ 0)
@@ -226,13 +225,13 @@ module _ (board : Board) (slot : ℕ) (inside : slot < length (table_of board)) 
           × (get_or table lowest 0 ≡ 0)
           × ((lower : ℕ) → lower < lowest → get_or table lower 0 ≢ 0)
           × (table_of (call q board (store block offset bytes)).board ≡ set table lowest (word_of block PreDirty))
-      taken none-there =
-          let None-found = no_entry_found block table none-there in
+      taken none_there =
+          let nothing_found = no_entry_found block table none_there in
           let lowest = left.slot in
-          let is-lowest : lowest_free table ≡ some lowest = ap (λ (r : Lookup). slot_for r (lowest_free table)) (sym None-found) ∙ left.taken in
+          let is-lowest : lowest_free table ≡ Some lowest = ap (λ (r : Option Entry). slot_for r (lowest_free table)) (sym nothing_found) ∙ left.taken in
           let v : Vacant table lowest = subst (VacantAt table) is-lowest (vacant table) in
           let moves : to Cache PreDirty ≡ to left.place left.state =
-          ap (λ (phase : Phase). move_in phase (stores Nothing)) (sym writing) ∙ ap (λ (r : Lookup). move_in (phase_of board) (stores r)) (sym None-found) ∙ left.row
+          ap (λ (phase : Phase). move_in phase (stores None)) (sym writing) ∙ ap (λ (r : Option Entry). move_in (phase_of board) (stores r)) (sym nothing_found) ∙ left.row
           in
           let state : left.state ≡ PreDirty = cc in
           let low : lowest ≤ slot = elim (dec_lt slot lowest) [ yes h ↦ absurd (vacant_below v slot h (ap says room ∙ says_zero)) | no h ↦ omega arith ] in (

@@ -3,22 +3,21 @@ use mathlib.Core.Path.{◌≡◌, refl, sym, ap, ◌∙◌}
 use mathlib.Core.Logic.{◌≢◌}
 use mathlib.Core.Bool.{Bool, true, false, cond}
 use mathlib.Core.List.{List, [], ◌∷◌}
-use mathlib.Core.Option.{Option, none, some}
 use Prim.Native.Nat.{ℕ, ◌+◌, ◌*◌, ◌≤◌, ◌<◌}
 use native.Mathlib.Omega.{arith}
 use native.Mathlib.Nat.{suc-ne-zero, le_refl}
 use lib.ListN.{length, get_or}
 use borrow.Author.Tests.{le-leb}
+use Rattle.std.specs.Prelude.{Option, Some, None}
 use Rattle.words.specs.Words.{Store}
 use Rattle.words.proofs.All.{All}
 use Rattle.rules.specs.declared.Phase.{Phase}
 use Rattle.rules.specs.declared.Phase.TheVariants.{Running, Writing, Off}
 use Rattle.rules.specs.declared.State.{State}
 use Rattle.rules.specs.declared.State.TheVariants.{Clean, Dirty, Hidden, PreHidden, PreDirty}
-use Rattle.rules.specs.declared.Lookup.{Lookup}
-use Rattle.rules.specs.declared.Lookup.TheVariants.{Entry, Nothing}
+use Rattle.rules.specs.declared.Entry.{Entry}
 use Rattle.rules.specs.declared.Number.TheVariants as No
-use Rattle.rules.specs.TableWords.{free, says, lookup, lowest_free}
+use Rattle.rules.specs.TableWords.{entry_at, free, says, lookup, lowest_free}
 use Rattle.rules.specs.Board.{Board, Volatile, sizes, phase_of, table_of}
 use Rattle.rules.specs.Numbers.{number_of, ◌⇒◌, inexact, is_off, while_writing, allows, out_of_range, is_writing}
 use Rattle.rules.specs.Power.{carry, guard, settle}
@@ -35,6 +34,7 @@ use Rattle.rules.proofs.Windows.{window_stores}
 use Rattle.rules.proofs.LaidAt.{window_covers}
 use Rattle.rules.proofs.KeepsStore.{replaced-length, seen-length}
 use Rattle.rules.proofs.Moves.{store_room}
+use Rattle.rules.proofs.EntryCases.{Case, nothing, in_slot, case_of}
 
 -- a list within the supply is never cut
 uncut : (q : ℕ) (board : Board) (ws : List Store) (after : Volatile) → length ws ≤ q → number_of (settle q board (carry ws after [])).number ≡ 0
@@ -65,12 +65,12 @@ module _ (board : Board) (slot : ℕ) (inside : slot < length (table_of board)) 
       omega (arith, few, (window_stores k (64 * k + 64) (window_for short offset (length bytes)) fresh few size (le_refl (64 * k + 64))).count)
 
   -- an entry that is found while Writing is neither dirty nor hidden
-  writing_state : (count i : ℕ) (state : State) → phase_of board ≡ Writing count → Finds block table (Entry i state) → while_writing state ≡ true
+  writing_state : (count i : ℕ) (state : State) → phase_of board ≡ Writing count → Finds block table (entry_at i state) → while_writing state ≡ true
   unfolding allows
   writing_state count i state writing f =
       (formed_names while_writing (sizes board) (get_or table i 0) block state (all_get i (common_formed load_passed.0 (Writing count) writing) (found_lt f)) (found_at f)).1
 
-  abbrev answer : ℕ → Phase → Lookup → Option ℕ → ℕ
+  abbrev answer : ℕ → Phase → Option Entry → Option ℕ → ℕ
   answer q phase r z =
       number_of (settle q board (guard (cond (full (slot_for r z)) No.Full No.Done) (moved_to board block (slot_for r z) fresh (window_for (is_short phase r) offset (length bytes)) (move_in phase (stores r))))).number
 
@@ -79,38 +79,38 @@ module _ (board : Board) (slot : ℕ) (inside : slot < length (table_of board)) 
   not_full none_free = all_get slot none_free inside (ap says room ∙ says_zero)
 
   -- while Running the new block goes to the memory
-  running_accepted : (q : ℕ) → 8 ≤ q → (r : Lookup) (z : Option ℕ) → VacantAt table z → answer q Running r z ≡ 0
+  running_accepted : (q : ℕ) → 8 ≤ q → (r : Option Entry) (z : Option ℕ) → VacantAt table z → answer q Running r z ≡ 0
   unfolding guard moved_to moved slot_for full move_in stores lay_at spot_in number_of is_short dirty_or_hidden
-  running_accepted q supply = go
+  running_accepted q supply r = go (case_of r)
     where
       laid : (k : ℕ) (short : Bool) (after : Volatile) → number_of (settle q board (carry (window_to k (window_for short offset (length bytes)) fresh) after [])).number ≡ 0
       laid k short after = uncut q board _ after (omega (arith, few_words k short))
 
-      go : (r : Lookup) (z : Option ℕ) → VacantAt table z → answer q Running r z ≡ 0
-      go Nothing none v = absurd (not_full v)
-      go Nothing (some lowest) v = laid _ false _
-      go (Entry i Clean) z v = laid _ false _
-      go (Entry i Dirty) z v = laid _ true _
-      go (Entry i Hidden) z v = laid _ true _
-      go (Entry i PreHidden) z v = laid _ false _
-      go (Entry i PreDirty) z v = laid _ false _
+      go : {r : Option Entry} → Case r → (z : Option ℕ) → VacantAt table z → answer q Running r z ≡ 0
+      go nothing None v = absurd (not_full v)
+      go nothing (Some lowest) v = laid _ false _
+      go (in_slot i Clean) z v = laid _ false _
+      go (in_slot i Dirty) z v = laid _ true _
+      go (in_slot i Hidden) z v = laid _ true _
+      go (in_slot i PreHidden) z v = laid _ false _
+      go (in_slot i PreDirty) z v = laid _ false _
 
   -- while Writing it goes to CACHE, so that no supply cuts it
-  writing_accepted : (q count : ℕ) → phase_of board ≡ Writing count → (r : Lookup) → Finds block table r → (z : Option ℕ) → VacantAt table z → answer q (Writing count) r z ≡ 0
+  writing_accepted : (q count : ℕ) → phase_of board ≡ Writing count → (r : Option Entry) → Finds block table r → (z : Option ℕ) → VacantAt table z → answer q (Writing count) r z ≡ 0
   unfolding guard moved_to moved slot_for full move_in stores lay_at spot_in number_of while_writing
-  writing_accepted q count writing = go
+  writing_accepted q count writing r = go (case_of r)
     where
       laid : (after : Volatile) → number_of (settle q board (carry [] after [])).number ≡ 0
       laid after = uncut q board [] after (omega arith)
 
-      go : (r : Lookup) → Finds block table r → (z : Option ℕ) → VacantAt table z → answer q (Writing count) r z ≡ 0
-      go Nothing f none v = absurd (not_full v)
-      go Nothing f (some lowest) v = laid _
-      go (Entry i Clean) f z v = laid _
-      go (Entry i Dirty) f z v = absurd (false_true (writing_state count i Dirty writing f))
-      go (Entry i Hidden) f z v = absurd (false_true (writing_state count i Hidden writing f))
-      go (Entry i PreHidden) f z v = laid _
-      go (Entry i PreDirty) f z v = laid _
+      go : {r : Option Entry} → Case r → Finds block table r → (z : Option ℕ) → VacantAt table z → answer q (Writing count) r z ≡ 0
+      go nothing f None v = absurd (not_full v)
+      go nothing f (Some lowest) v = laid _
+      go (in_slot i Clean) f z v = laid _
+      go (in_slot i Dirty) f z v = absurd (false_true (writing_state count i Dirty writing f))
+      go (in_slot i Hidden) f z v = absurd (false_true (writing_state count i Hidden writing f))
+      go (in_slot i PreHidden) f z v = laid _
+      go (in_slot i PreDirty) f z v = laid _
 
   pub store_accepted : (q : ℕ) → (is_writing (phase_of board) ≡ false → 8 ≤ q) → number_of (call q board (store block offset bytes)).number ≡ 0
   unfolding call plan store_plan store_by

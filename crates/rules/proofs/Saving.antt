@@ -3,13 +3,13 @@ use mathlib.Core.Path.{◌≡◌, refl, sym, ap, ◌∙◌, subst}
 use mathlib.Core.Logic.{◌≢◌}
 use mathlib.Core.Bool.{Bool, true, false, not, cond}
 use mathlib.Core.List.{List, [], ◌∷◌}
-use mathlib.Core.Option.{Option, none, some}
 use Prim.Native.Nat.{ℕ, ◌+◌, ◌*◌, ◌≤◌, ◌<◌}
 use native.Mathlib.Omega.{arith}
 use lib.Dec.{eqb}
 use lib.ListN.{length, take}
 use lib.Seq.{take-length}
 use borrow.Author.Tests.{eqb-true}
+use Rattle.std.specs.Prelude.{Option, Some, None}
 use Rattle.words.specs.Words.{word, words, block_at, Store, lay, number}
 use Rattle.words.proofs.All.{All, all_map}
 use Rattle.words.proofs.Lists.{Fit, Harmless}
@@ -18,8 +18,7 @@ use Rattle.words.proofs.Makers.{words_agree, numbers_agree, length-words, length
 use Rattle.rules.specs.declared.Geometry.{Geometry}
 use Rattle.rules.specs.declared.Backup.{Backup}
 use Rattle.rules.specs.declared.Backup.TheVariants.{A, B}
-use Rattle.rules.specs.declared.Lookup.{Lookup}
-use Rattle.rules.specs.declared.Lookup.TheVariants.{Entry, Nothing}
+use Rattle.rules.specs.declared.Entry.{Entry}
 use Rattle.rules.specs.Geometry.{backup_start, backup_words, mark_start, memory_words}
 use Rattle.rules.specs.TableWords.{lookup}
 use Rattle.rules.specs.Stores.{stores}
@@ -37,21 +36,21 @@ pub record Head : Type 0 where
   pub table : List ℕ
 
 unfoldable pub head_from : Geometry → List ℕ → Option Backup → Head
-head_from g memory none = record { finished = none; registers = none; table = [] }
-head_from g memory (some backup) = record { finished = some backup; registers = saved_registers g memory backup; table = table_in g memory backup }
+head_from g memory None = record { finished = None; registers = None; table = [] }
+head_from g memory (Some backup) = record { finished = Some backup; registers = saved_registers g memory backup; table = table_in g memory backup }
 
 unfoldable pub head_of : Geometry → List ℕ → Head
 head_of g memory = head_from g memory (finished_in g memory)
 
 -- whether there are registers, by the mark
 pub registers_by : (g : Geometry) (memory : List ℕ) (backup : Backup) (mark : ℕ) → mark_in g memory ≡ mark
-    → saved_registers g memory backup ≡ cond (has_registers mark) (some (registers_in g memory backup)) none
+    → saved_registers g memory backup ≡ cond (has_registers mark) (Some (registers_in g memory backup)) None
 unfolding saved_registers
-registers_by g memory backup mark e = ap (λ (z : ℕ). cond (has_registers z) (some (registers_in g memory backup)) none) e
+registers_by g memory backup mark e = ap (λ (z : ℕ). cond (has_registers z) (Some (registers_in g memory backup)) None) e
 
 pub data Reads (g : Geometry) (h : Head) (j : ℕ) : Type 0 where
   the_mark : j ≡ mark_start g → Reads g h j
-  the_backup : (backup : Backup) → h.finished ≡ some backup → backup_start g backup ≤ j → j < backup_start g backup + backup_words g → Reads g h j
+  the_backup : (backup : Backup) → h.finished ≡ Some backup → backup_start g backup ≤ j → j < backup_start g backup + backup_words g → Reads g h j
 
 pub head_local : (g : Geometry) (memory memory' : List ℕ) → ((j : ℕ) → Reads g (head_of g memory) j → word memory' j ≡ word memory j)
     → head_of g memory' ≡ head_of g memory
@@ -59,9 +58,9 @@ unfolding head_of head_from finished_in saved_registers registers_in table_in
 head_local g memory memory' h = rw (h (mark_start g) (the_mark refl)) (go (finished_by (number (word memory (mark_start g)))) refl)
   where
     go : (o : Option Backup) → finished_by (number (word memory (mark_start g))) ≡ o → head_from g memory' o ≡ head_from g memory o
-    go none e = refl
-    go (some x) e =
-        let w : (head_of g memory).finished ≡ some x = ap (λ (z : Option Backup). (head_from g memory z).finished) e in
+    go None e = refl
+    go (Some x) e =
+        let w : (head_of g memory).finished ≡ Some x = ap (λ (z : Option Backup). (head_from g memory z).finished) e in
         rw (
           h (mark_start g) (the_mark refl),
           words_agree memory memory' 8 (backup_start g x) (λ j a b. h j (the_backup x w a (omega arith))),
@@ -90,7 +89,7 @@ mark_high g B = omega arith
 -- ---- a finished backup and the picture that it keeps
 
 pub record Kept (g : Geometry) (memory : List ℕ) (finished : Backup) (registers : Option (List ℕ)) (table : List ℕ) (picture : Picture) : Type 0 where
-  pub reads : head_of g memory ≡ record { finished = some finished; registers = registers; table = table }
+  pub reads : head_of g memory ≡ record { finished = Some finished; registers = registers; table = table }
   pub good : sound g table ≡ true
   pub image : (block : ℕ) → block < g.blocks → block_at memory (saved_block g table block) ≡ picture.blocks block
   pub given : registers ≡ picture.registers
@@ -99,18 +98,18 @@ pub saved_lt : (g : Geometry) (table : List ℕ) (block : ℕ) → block < g.blo
 unfolding saved_block saved_by
 saved_lt g table block h e = go (lookup block table) (finds block table)
   where
-    go : (r : Lookup) → Finds block table r → saved_by g block r < g.blocks + g.slots
-    go Nothing l = omega arith
-    go (Entry slot state) l = let lt = found_lt l in omega arith
+    go : (r : Option Entry) → Finds block table r → saved_by g block r < g.blocks + g.slots
+    go None l = omega arith
+    go (Some entry) l = let lt = found_lt l in omega arith
 
 pub kept_length : {g : Geometry} {memory : List ℕ} {x : Backup} {registers : Option (List ℕ)} {table : List ℕ} {picture : Picture}
     → Kept g memory x registers table picture → length table ≡ g.slots
 unfolding head_of head_from table_in
 kept_length {g} {memory} {x} {registers} {table} k = go (finished_in g memory) k.reads
   where
-    go : (o : Option Backup) → head_from g memory o ≡ record { finished = some x; registers = registers; table = table } → length table ≡ g.slots
-    go none e = absurd (none_some x (ap (λ (h : Head). h.finished) e))
-    go (some y) e = ap length (sym (ap (λ (h : Head). h.table) e)) ∙ length-numbers memory g.slots (backup_start g y + 8)
+    go : (o : Option Backup) → head_from g memory o ≡ record { finished = Some x; registers = registers; table = table } → length table ≡ g.slots
+    go None e = absurd (none_some x (ap (λ (h : Head). h.finished) e))
+    go (Some y) e = ap length (sym (ap (λ (h : Head). h.table) e)) ∙ length-numbers memory g.slots (backup_start g y + 8)
 
 -- registers that exist are 64 bytes, so those handed out say which they are, and none say that there are none
 pub given_saved : (g : Geometry) (memory : List ℕ) (backup : Backup) → length memory ≡ 8 * memory_words g
@@ -118,12 +117,12 @@ pub given_saved : (g : Geometry) (memory : List ℕ) (backup : Backup) → lengt
 unfolding saved_registers registers_in registers_given handed_out
 given_saved g memory backup size = go (has_registers (mark_in g memory))
   where
-    some_bytes : (bytes : List ℕ) → length bytes ≡ 64 → registers_given bytes ≡ some bytes
+    some_bytes : (bytes : List ℕ) → length bytes ≡ 64 → registers_given bytes ≡ Some bytes
     some_bytes [] e = absurd (omega arith)
     some_bytes (byte ∷ bytes) e = refl
 
     go : (has : Bool)
-        → registers_given (handed_out (cond has (some (registers_in g memory backup)) none)) ≡ cond has (some (registers_in g memory backup)) none
+        → registers_given (handed_out (cond has (Some (registers_in g memory backup)) None)) ≡ cond has (Some (registers_in g memory backup)) None
     go true = some_bytes (registers_in g memory backup) (length-words memory 8 (backup_start g backup) (omega (arith, mark_high g backup, size)))
     go false = refl
 
@@ -132,31 +131,31 @@ pub given_back : {g : Geometry} {memory : List ℕ} {x : Backup} {registers : Op
 unfolding head_of head_from
 given_back {g} {memory} {x} {registers} {table} k size = go (finished_in g memory) k.reads
   where
-    go : (o : Option Backup) → head_from g memory o ≡ record { finished = some x; registers = registers; table = table } → registers_given (handed_out registers) ≡ registers
-    go none e = absurd (none_some x (ap (λ (h : Head). h.finished) e))
-    go (some y) e = subst (λ (z : Option (List ℕ)). registers_given (handed_out z) ≡ z) (ap (λ (h : Head). h.registers) e) (given_saved g memory y size)
+    go : (o : Option Backup) → head_from g memory o ≡ record { finished = Some x; registers = registers; table = table } → registers_given (handed_out registers) ≡ registers
+    go None e = absurd (none_some x (ap (λ (h : Head). h.finished) e))
+    go (Some y) e = subst (λ (z : Option (List ℕ)). registers_given (handed_out z) ≡ z) (ap (λ (h : Head). h.registers) e) (given_saved g memory y size)
 
 -- only the mark 3 says that there are none, and it names A
-absent_marked : (g : Geometry) (memory : List ℕ) (backup : Backup) → saved_registers g memory backup ≡ none → finished_in g memory ≡ some A
+absent_marked : (g : Geometry) (memory : List ℕ) (backup : Backup) → saved_registers g memory backup ≡ None → finished_in g memory ≡ Some A
 unfolding saved_registers has_registers finished_in finished_by
 absent_marked g memory backup = go (eqb mark 3) refl
   where
     mark : ℕ
     mark = mark_in g memory
 
-    go : (three : Bool) → eqb mark 3 ≡ three → cond (not three) (some (registers_in g memory backup)) none ≡ none → finished_by mark ≡ some A
+    go : (three : Bool) → eqb mark 3 ≡ three → cond (not three) (Some (registers_in g memory backup)) None ≡ None → finished_by mark ≡ Some A
     go true e q = ap finished_by (eqb-true mark 3 e)
     go false e q = absurd (none_some (registers_in g memory backup) (sym q))
 
-pub absent_is_A : {g : Geometry} {memory : List ℕ} {x : Backup} {table : List ℕ} {picture : Picture} → Kept g memory x none table picture → x ≡ A
+pub absent_is_A : {g : Geometry} {memory : List ℕ} {x : Backup} {table : List ℕ} {picture : Picture} → Kept g memory x None table picture → x ≡ A
 unfolding head_of head_from
 absent_is_A {g} {memory} {x} {table} k = go (finished_in g memory) refl k.reads
   where
-    go : (o : Option Backup) → finished_in g memory ≡ o → head_from g memory o ≡ record { finished = some x; registers = none; table = table } → x ≡ A
-    go none f e = absurd (none_some x (ap (λ (h : Head). h.finished) e))
-    go (some y) f e =
-        let same : some y ≡ some x = ap (λ (h : Head). h.finished) e in
-        let named : some y ≡ some A = sym f ∙ absent_marked g memory y (ap (λ (h : Head). h.registers) e) in
+    go : (o : Option Backup) → finished_in g memory ≡ o → head_from g memory o ≡ record { finished = Some x; registers = None; table = table } → x ≡ A
+    go None f e = absurd (none_some x (ap (λ (h : Head). h.finished) e))
+    go (Some y) f e =
+        let same : Some y ≡ Some x = ap (λ (h : Head). h.finished) e in
+        let named : Some y ≡ Some A = sym f ∙ absent_marked g memory y (ap (λ (h : Head). h.registers) e) in
         cc
 
 -- ---- stores that no finished backup minds
@@ -179,7 +178,7 @@ loose_below g x table s (in_other c d) = record { under = omega (arith, mark_hig
 
 module _ {g : Geometry} {memory : List ℕ} {x : Backup} {registers : Option (List ℕ)} {table : List ℕ} {picture : Picture} (k : Kept g memory x registers table picture) where
   head_is : Head
-  head_is = record { finished = some x; registers = registers; table = table }
+  head_is = record { finished = Some x; registers = registers; table = table }
 
   pub loose_free : (s : Store) → Loose g x table s → Protected (scheme g) memory s.place → ⊥
   unfolding scheme head_is

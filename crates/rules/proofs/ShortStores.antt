@@ -2,22 +2,21 @@
 use mathlib.Core.Path.{◌≡◌, refl, sym, ap, ◌∙◌}
 use mathlib.Core.Logic.{◌≢◌, ◌↔◌}
 use mathlib.Core.Bool.{Bool, false}
-use mathlib.Core.Option.{Option, none, some}
 use mathlib.Core.List.{List}
 use Prim.Native.Nat.{ℕ, ◌+◌, ◌≤◌, ◌<◌, min}
 use native.Mathlib.Omega.{arith}
 use lib.ListN.{length, set, take, length-take}
+use Rattle.std.specs.Prelude.{Option, Some, None}
 use Rattle.words.specs.Words.{bytes_to}
 use Rattle.rules.specs.declared.Phase.{Phase}
 use Rattle.rules.specs.declared.Phase.TheVariants.{Running, Writing, Off}
 use Rattle.rules.specs.declared.State.{State}
 use Rattle.rules.specs.declared.State.TheVariants.{Clean, Dirty, Hidden, PreHidden, PreDirty}
-use Rattle.rules.specs.declared.Lookup.{Lookup}
-use Rattle.rules.specs.declared.Lookup.TheVariants.{Entry, Nothing}
+use Rattle.rules.specs.declared.Entry.{Entry}
 use Rattle.rules.specs.declared.Place.{Place}
 use Rattle.rules.specs.declared.Window.{Window}
 use Rattle.rules.specs.Geometry.{home_block, checkpoint_block}
-use Rattle.rules.specs.TableWords.{word_of, lookup, lowest_free}
+use Rattle.rules.specs.TableWords.{entry_at, word_of, lookup, lowest_free}
 use Rattle.rules.specs.Board.{Board, sizes, phase_of, table_of}
 use Rattle.rules.specs.Numbers.{number_of}
 use Rattle.rules.specs.Power.{Plan, settle, stored}
@@ -30,6 +29,7 @@ use Rattle.rules.proofs.Checked.{InRange}
 use Rattle.rules.proofs.LaidAt.{all_whole}
 use Rattle.rules.proofs.Answers.{past_guard}
 use Rattle.rules.proofs.Moves.{laid_board, store_checked, store_stored}
+use Rattle.rules.proofs.EntryCases.{Case, nothing, in_slot, case_of}
 
 -- the words of the range, by the quotients of its ends
 touched_exactly : (offset len k : ℕ) → len ≢ 0
@@ -54,13 +54,13 @@ module _ (board : Board) (block offset : ℕ) (bytes : List ℕ) where
   table = table_of board
 
   -- the store behind its checks, in a phase and for what a lookup finds
-  abbrev carried : Window → Phase → Lookup → Plan
+  abbrev carried : Window → Phase → Option Entry → Plan
   carried window phase found = moved_to board block (slot_for found (lowest_free table)) fresh window (move_in phase (stores found))
 
-  short : (slot q : ℕ) (state : State) → phase_of board ≡ Running → lookup block table ≡ Entry slot state
+  short : (slot q : ℕ) (state : State) → phase_of board ≡ Running → lookup block table ≡ entry_at slot state
       → number_of (store_number board block offset bytes) ≡ 0 → InRange board block offset (length bytes)
       → spot_in (sizes board) block slot (shows state) ≡ in_memory q
-      → ((p : ℕ) → stored p (carried (window_for (is_short Running (Entry slot state)) offset (length bytes)) Running (Entry slot state)) ≡ take p (window_to q (touched offset (length bytes)) fresh))
+      → ((p : ℕ) → stored p (carried (window_for (is_short Running (entry_at slot state)) offset (length bytes)) Running (entry_at slot state)) ≡ take p (window_to q (touched offset (length bytes)) fresh))
       → ShortList board block offset bytes
   unfolding plan store_plan store_by spot_of
   short slot q state run found e r s l = record {
@@ -74,11 +74,11 @@ module _ (board : Board) (block offset : ℕ) (bytes : List ℕ) where
         ap (stored p)
         (past_guard (store_number board block offset bytes) (carried (window_for (is_short (phase_of board) (lookup block table)) offset (length bytes)) (phase_of board) (lookup block table)) e
         ∙ ap (λ (z : Phase). carried (window_for (is_short z (lookup block table)) offset (length bytes)) z (lookup block table)) run
-        ∙ ap (λ (z : Lookup). carried (window_for (is_short Running z) offset (length bytes)) Running z) found)
+        ∙ ap (λ (z : Option Entry). carried (window_for (is_short Running z) offset (length bytes)) Running z) found)
         ∙ l p;
   }
 
-  pub short_list : (slot : ℕ) (state : State) → phase_of board ≡ Running → lookup block table ≡ Entry slot state → DirtyOrHidden state
+  pub short_list : (slot : ℕ) (state : State) → phase_of board ≡ Running → lookup block table ≡ entry_at slot state → DirtyOrHidden state
       → number_of (store_number board block offset bytes) ≡ 0 → ShortList board block offset bytes
   unfolding window_for is_short dirty_or_hidden moved_to moved lay_at slot_for move_in stores spot_in stored
   short_list slot Dirty run f is_dirty e =
@@ -90,25 +90,25 @@ module _ (board : Board) (block offset : ℕ) (bytes : List ℕ) where
   short_list slot PreDirty run f x6 e = elim x6 [ ]
 
   -- every other row of the column Running has 8 words, where there is room
-  eight : (p : ℕ) (r : Lookup) → ((slot : ℕ) (state : State) → DirtyOrHidden state → r ≢ Entry slot state) → (z : Option ℕ) → full (slot_for r z) ≡ false
+  eight : (p : ℕ) {r : Option Entry} → Case r → ((slot : ℕ) (state : State) → DirtyOrHidden state → r ≢ entry_at slot state) → (z : Option ℕ) → full (slot_for r z) ≡ false
       → length (stored p (moved_to board block (slot_for r z) fresh (window_for (is_short Running r) offset (length bytes)) (move_in Running (stores r)))) ≡ min p 8
   unfolding window_for is_short dirty_or_hidden moved_to moved lay_at window_to bytes_to slot_for move_in stores spot_in full stored
-  eight p Nothing ne none room = absurd (false_true (sym room))
-  eight p Nothing ne (some slot) room = length-take p _
-  eight p (Entry slot Clean) ne z room = length-take p _
-  eight p (Entry slot Dirty) ne z room = absurd (ne slot Dirty is_dirty refl)
-  eight p (Entry slot Hidden) ne z room = absurd (ne slot Hidden is_hidden refl)
-  eight p (Entry slot PreHidden) ne z room = length-take p _
-  eight p (Entry slot PreDirty) ne z room = length-take p _
+  eight p nothing ne None room = absurd (false_true (sym room))
+  eight p nothing ne (Some slot) room = length-take p _
+  eight p (in_slot slot Clean) ne z room = length-take p _
+  eight p (in_slot slot Dirty) ne z room = absurd (ne slot Dirty is_dirty refl)
+  eight p (in_slot slot Hidden) ne z room = absurd (ne slot Hidden is_hidden refl)
+  eight p (in_slot slot PreHidden) ne z room = length-take p _
+  eight p (in_slot slot PreDirty) ne z room = length-take p _
 
-  pub eight_list : (p : ℕ) → phase_of board ≡ Running → ((slot : ℕ) (state : State) → DirtyOrHidden state → lookup block table ≢ Entry slot state)
+  pub eight_list : (p : ℕ) → phase_of board ≡ Running → ((slot : ℕ) (state : State) → DirtyOrHidden state → lookup block table ≢ entry_at slot state)
       → number_of (store_number board block offset bytes) ≡ 0 → length (stored p (plan board (store block offset bytes))) ≡ min p 8
   unfolding plan store_plan store_by
   eight_list p run ne e =
       ap (λ (z : Plan). length (stored p z))
       (past_guard (store_number board block offset bytes) (carried (window_for (is_short (phase_of board) (lookup block table)) offset (length bytes)) (phase_of board) (lookup block table)) e
       ∙ ap (λ (z : Phase). carried (window_for (is_short z (lookup block table)) offset (length bytes)) z (lookup block table)) run)
-      ∙ eight p (lookup block table) ne (lowest_free table) (store_checked board block offset bytes e).3
+      ∙ eight p (case_of (lookup block table)) ne (lowest_free table) (store_checked board block offset bytes e).3
 
   -- all 8 words are laid under an allowance of 8
   eight_accepted : (slot : ℕ) (place : Place) (state : State) → number_of (settle 8 board (moved board block slot fresh all (to place state))).number ≡ 0
@@ -135,17 +135,21 @@ module _ (board : Board) (block offset : ℕ) (bytes : List ℕ) where
       ∙ laid_board board block offset bytes 8 s.slot s.place s.state all whole (eight_accepted s.slot s.place s.state))
 
 -- what decides on a short list is the phase and the entry found
-not_short : (phase : Phase) (found : Lookup) → ((slot : ℕ) (state : State) → phase ≡ Running → DirtyOrHidden state → found ≢ Entry slot state)
+not_short : (phase : Phase) (found : Option Entry) → ((slot : ℕ) (state : State) → phase ≡ Running → DirtyOrHidden state → found ≢ entry_at slot state)
     → is_short phase found ≡ false
 unfolding is_short dirty_or_hidden
-not_short Running Nothing ne = refl
-not_short Running (Entry slot Clean) ne = refl
-not_short Running (Entry slot Dirty) ne = absurd (ne slot Dirty refl is_dirty refl)
-not_short Running (Entry slot Hidden) ne = absurd (ne slot Hidden refl is_hidden refl)
-not_short Running (Entry slot PreHidden) ne = refl
-not_short Running (Entry slot PreDirty) ne = refl
-not_short (Writing count) found ne = refl
-not_short Off found ne = refl
+not_short phase found = go phase (case_of found)
+  where
+    go : (phase : Phase) {found : Option Entry} → Case found → ((slot : ℕ) (state : State) → phase ≡ Running → DirtyOrHidden state → found ≢ entry_at slot state)
+        → is_short phase found ≡ false
+    go Running nothing ne = refl
+    go Running (in_slot slot Clean) ne = refl
+    go Running (in_slot slot Dirty) ne = absurd (ne slot Dirty refl is_dirty refl)
+    go Running (in_slot slot Hidden) ne = absurd (ne slot Hidden refl is_hidden refl)
+    go Running (in_slot slot PreHidden) ne = refl
+    go Running (in_slot slot PreDirty) ne = refl
+    go (Writing count) c ne = refl
+    go Off c ne = refl
 
 pub plan_elsewhere : PlanElsewhere
 unfolding PlanElsewhere plan store_plan window_for

@@ -2,7 +2,7 @@
 use mathlib.Core.Path.{◌≡◌, refl, sym, ap, ◌∙◌, subst}
 use mathlib.Core.Bool.{true, false, not}
 use mathlib.Core.List.{List, [], ◌∷◌}
-use mathlib.Core.Option.{Option, none, some}
+use Rattle.std.specs.Prelude.{Option, None, Some}
 use Prim.Native.Nat.{ℕ}
 use native.Mathlib.Nat.{suc-ne-zero}
 use borrow.Author.Tests.{not-false}
@@ -46,7 +46,7 @@ format_inv g fill p board e =
 
 -- an accepted recovery of any memory at all: every block comes from where the finished backup saves it
 pub opened_inv : (g : Geometry) (p : ℕ) (board : Board) → number_of (call p board (recover g)).number ≡ 0
-    → (plain : Plain) → opened g (call p board (recover g)).board.memory ≡ some plain → Inv (call p board (recover g)).board plain
+    → (plain : Plain) → opened g (call p board (recover g)).board.memory ≡ Some plain → Inv (call p board (recover g)).board plain
 unfolding call plan recover_plan recover_number recover_from no_checkpoint unsound head_of head_from opened opened_from saved_in number_of lay
 opened_inv g p board e plain o =
     let finished = finished_in g board.memory in
@@ -57,16 +57,16 @@ opened_inv g p board e plain o =
   where
     from : (x : Option Backup) → finished_in g board.memory ≡ x → outside g ≡ false → Lent g board
         → number_of (first_of ((no_checkpoint x ⇒ No.NoCheckpoint) ∷ (unsound g board.memory x ⇒ No.Backup) ∷ [])) ≡ 0
-        → opened_from g (settle p board (recover_from board g x)).board.memory (finished_in g (settle p board (recover_from board g x)).board.memory) ≡ some plain
+        → opened_from g (settle p board (recover_from board g x)).board.memory (finished_in g (settle p board (recover_from board g x)).board.memory) ≡ Some plain
         → Inv (settle p board (recover_from board g x)).board plain
-    from none f fine lent h o = absurd (suc-ne-zero 9 h)
-    from (some x) f fine lent h o =
+    from None f fine lent h o = absurd (suc-ne-zero 9 h)
+    from (Some x) f fine lent h o =
         let table : List ℕ = table_in g board.memory x in
         let good : sound g table ≡ true = not-false (sound g table) (passed (not (sound g table)) No.Backup [] (suc-ne-zero 10) h).0 in
         let after : Board = recovered g board.memory (cache_of board) x (saved_registers g board.memory x) table in
-        let found : Plain = record { live = (saved_in g board.memory x).blocks; kept = saved_in g board.memory x; on_its_way = none } in
+        let found : Plain = record { live = (saved_in g board.memory x).blocks; kept = saved_in g board.memory x; on_its_way = None } in
         let is = carry_nothing p board after.volatile (handed_out (saved_registers g board.memory x)) in
-        let same : some found ≡ some plain =
+        let same : Some found ≡ Some plain =
         ap (opened_from g board.memory) (sym f) ∙ ap (λ (z : Outcome). opened_from g z.board.memory (finished_in g z.board.memory)) (sym is) ∙ o
         in
         let q : found ≡ plain = cc in

@@ -15,11 +15,10 @@ use Rattle.rules.specs.declared.Geometry.{Geometry}
 use Rattle.rules.specs.declared.Phase.{Phase}
 use Rattle.rules.specs.declared.Phase.TheVariants.{Running}
 use Rattle.rules.specs.declared.State.TheVariants.{Clean, Hidden}
-use Rattle.rules.specs.declared.Lookup.TheVariants.{Entry}
 use Rattle.rules.specs.declared.Number.{Number}
 use Rattle.rules.specs.declared.Number.TheVariants as No
 use Rattle.rules.specs.Geometry.{home_block, checkpoint_block}
-use Rattle.rules.specs.TableWords.{word_of, distinct, every}
+use Rattle.rules.specs.TableWords.{entry_at, word_of, distinct, every}
 use Rattle.rules.specs.Board.{Board, sizes, cache_of, table_of}
 use Rattle.rules.specs.Numbers.{number_of, Check, ◌⇒◌, first_of, allows, well_formed, malformed, common_checks, no_block, out_of_range}
 use Rattle.rules.specs.Power.{Plan, refuse, carry, guard, Outcome, whole, settle, stored}
@@ -42,7 +41,7 @@ use Rattle.rules.proofs.Moves.{accepted_whole}
 -- ---- one entry
 
 module _ (board : Board) (o : Open board) (apart : Apart (table_of board)) (slot block : ℕ)
-    (found : Finds block (table_of board) (Entry slot Clean)) (below : block < (sizes board).blocks) where
+    (found : Finds block (table_of board) (entry_at slot Clean)) (below : block < (sizes board).blocks) where
   abbrev g : Geometry
   g = sizes board
 

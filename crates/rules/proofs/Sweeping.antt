@@ -10,6 +10,7 @@ use lib.Dec.{eqb}
 use lib.ListN.{length, take, drop, get_or, set, length-set, drop_of_length-le}
 use lib.Seq.{get_or-set_other}
 use borrow.Author.Tests.{eq-eqb, ne_eqb}
+use Rattle.std.specs.Prelude.{Option}
 use Rattle.words.specs.Words.{block_at, Store, lay, bytes_to}
 use Rattle.words.proofs.All.{All}
 use Rattle.words.proofs.Lists.{lay-append}
@@ -18,12 +19,11 @@ use Rattle.words.proofs.Blocks.{block_stores, block_laid_other}
 use Rattle.rules.specs.declared.Phase.{Phase}
 use Rattle.rules.specs.declared.Phase.TheVariants.{Running, Writing, Off}
 use Rattle.rules.specs.declared.State.TheVariants.{Clean, Dirty, Hidden, PreHidden, PreDirty}
-use Rattle.rules.specs.declared.Lookup.{Lookup}
-use Rattle.rules.specs.declared.Lookup.TheVariants.{Entry}
+use Rattle.rules.specs.declared.Entry.{Entry}
 use Rattle.rules.specs.declared.Number.{Number}
 use Rattle.rules.specs.declared.Number.TheVariants as No
 use Rattle.rules.specs.Geometry.{home_block, checkpoint_block}
-use Rattle.rules.specs.TableWords.{word_of, Says, free, names, neither, says, lookup, lowest_free}
+use Rattle.rules.specs.TableWords.{entry_at, word_of, Says, free, names, neither, says, lookup, lowest_free}
 use Rattle.rules.specs.Board.{Board, sizes, phase_of, cache_of, table_of}
 use Rattle.rules.specs.Numbers.{number_of, ◌⇒◌, first_of, allows, well_formed, common_checks, inexact, is_off, is_writing}
 use Rattle.rules.specs.Power.{Plan, carry, guard}
@@ -165,10 +165,10 @@ itself : (block : List ℕ) → replaced block 0 block ≡ block
 unfolding replaced
 itself block = let h : length block ≤ 0 + length block = omega arith in ap (λ (z : List ℕ). block ++ z) (drop_of_length-le block h) ∙ append-nil block
 
-module _ (board : Board) (o : Open board) (slot block : ℕ) (found : Finds block (table_of board) (Entry slot Clean)) (below : block < (sizes board).blocks) where
+module _ (board : Board) (o : Open board) (slot block : ℕ) (found : Finds block (table_of board) (entry_at slot Clean)) (below : block < (sizes board).blocks) where
   pub shown : seen board block ≡ block_at board.memory (checkpoint_block (sizes board) slot)
   unfolding seen visible spot_of spot_in block_in
-  shown = ap (λ (z : Lookup). block_in board.memory (cache_of board) (spot_of (sizes board) block z)) (finds_lookup found)
+  shown = ap (λ (z : Option Entry). block_in board.memory (cache_of board) (spot_of (sizes board) block z)) (finds_lookup found)
 
   pub whole_block : length (seen board block) ≡ 64
   whole_block = seen-length board (open_lent o) block below
@@ -195,7 +195,7 @@ module _ (board : Board) (o : Open board) (slot block : ℕ) (found : Finds bloc
         finds_lookup found,
       )
 
-  abbrev planned : Lookup → Phase → List ℕ → Plan
+  abbrev planned : Option Entry → Phase → List ℕ → Plan
   planned r phase fresh =
       moved_to board block (slot_for r (lowest_free (table_of board))) fresh (window_for (is_short phase r) 0 (length (seen board block))) (move_in phase (stores r))
 
@@ -206,9 +206,9 @@ module _ (board : Board) (o : Open board) (slot block : ℕ) (found : Finds bloc
   as_store =
       let fresh = replaced (seen board block) 0 (seen board block) in
       ap (λ (n : Number). guard n (planned (lookup block (table_of board)) (phase_of board) fresh)) checks_passed
-      ∙ ap (λ (r : Lookup). planned r (phase_of board) fresh) (finds_lookup found)
-      ∙ ap (λ (phase : Phase). planned (Entry slot Clean) phase fresh) o.running
-      ∙ ap (planned (Entry slot Clean) Running) (itself (seen board block) ∙ shown)
+      ∙ ap (λ (r : Option Entry). planned r (phase_of board) fresh) (finds_lookup found)
+      ∙ ap (λ (phase : Phase). planned (entry_at slot Clean) phase fresh) o.running
+      ∙ ap (planned (entry_at slot Clean) Running) (itself (seen board block) ∙ shown)
       ∙ ap (λ (ws : List Store). carry ws (swept_once board slot block).volatile []) (window_all block (block_at board.memory (checkpoint_block (sizes board) slot)))
 
   -- a copy to HOME touches no CHECKPOINT block

@@ -2,7 +2,7 @@
 use mathlib.Core.Path.{◌≡◌, refl, sym, ap, ◌∙◌}
 use mathlib.Core.Logic.{◌≢◌}
 use mathlib.Core.Bool.{Bool, true, false, cond}
-use mathlib.Core.Option.{Option, none, some}
+use Rattle.std.specs.Prelude.{Option, None, Some}
 use Prim.Native.Nat.{ℕ, ◌/◌, ◌%◌, ◌≤◌}
 use native.Mathlib.Omega.{arith}
 use lib.Dec.{eqb}
@@ -28,7 +28,7 @@ code_high PreDirty = omega arith
 
 -- ---- codes and states
 
-pub state_code : (state : State) → state_for (code_of state) ≡ some state
+pub state_code : (state : State) → state_for (code_of state) ≡ Some state
 unfolding state_for
 state_code Clean = refl
 state_code Dirty = refl
@@ -36,21 +36,21 @@ state_code Hidden = refl
 state_code PreHidden = refl
 state_code PreDirty = refl
 
-row_code : (code n : ℕ) (here state : State) (rest : Option State) → n ≡ code_of here → (rest ≡ some state → code ≡ code_of state)
-    → cond (eqb code n) (some here) rest ≡ some state → code ≡ code_of state
+row_code : (code n : ℕ) (here state : State) (rest : Option State) → n ≡ code_of here → (rest ≡ Some state → code ≡ code_of state)
+    → cond (eqb code n) (Some here) rest ≡ Some state → code ≡ code_of state
 row_code code n here state rest q below = go (eqb code n) refl
   where
-    go : (b : Bool) → eqb code n ≡ b → cond b (some here) rest ≡ some state → code ≡ code_of state
+    go : (b : Bool) → eqb code n ≡ b → cond b (Some here) rest ≡ Some state → code ≡ code_of state
     go true t e = let h : here ≡ state = cc in eqb-true code n t ∙ q ∙ ap code_of h
     go false t e = below e
 
-pub code_state : (code : ℕ) (state : State) → state_for code ≡ some state → code ≡ code_of state
+pub code_state : (code : ℕ) (state : State) → state_for code ≡ Some state → code ≡ code_of state
 unfolding state_for
 code_state code state =
     row_code code 1 Clean state _ refl
     (row_code code 2 Dirty state _ refl
     (row_code code 3 Hidden state _ refl
-    (row_code code 4 PreHidden state _ refl (row_code code 5 PreDirty state none refl (λ e. absurd (none_some state e))))))
+    (row_code code 4 PreHidden state _ refl (row_code code 5 PreDirty state None refl (λ e. absurd (none_some state e))))))
 
 -- ---- words
 
@@ -81,11 +81,11 @@ unfolding says says_of word_of
 names_word word block state = go (eqb word 0)
   where
     named : (o : Option State) → state_for (word % 256) ≡ o → says_of (word / 256) o ≡ names block state → word ≡ word_of block state
-    named none q e = absurd (neither_names block state e)
-    named (some found) q e =
+    named None q e = absurd (neither_names block state e)
+    named (Some found) q e =
         let k : word / 256 ≡ block = cc in
         let s : found ≡ state = cc in
-        let c : word % 256 ≡ code_of state = code_state (word % 256) state (q ∙ ap (λ (x : State). some x) s) in
+        let c : word % 256 ≡ code_of state = code_state (word % 256) state (q ∙ ap (λ (x : State). Some x) s) in
         omega arith
 
     go : (b : Bool) → cond b free (says_of (word / 256) (state_for (word % 256))) ≡ names block state → word ≡ word_of block state
@@ -97,8 +97,8 @@ unfolding says says_of
 free_word word = go (eqb word 0) refl
   where
     named : (o : Option State) → says_of (word / 256) o ≡ free → word ≡ 0
-    named none e = absurd (neither_free e)
-    named (some found) e = absurd (free_names (word / 256) found (sym e))
+    named None e = absurd (neither_free e)
+    named (Some found) e = absurd (free_names (word / 256) found (sym e))
 
     go : (b : Bool) → eqb word 0 ≡ b → cond b free (says_of (word / 256) (state_for (word % 256))) ≡ free → word ≡ 0
     go true t e = eqb-true word 0 t

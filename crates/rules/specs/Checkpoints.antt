@@ -1,6 +1,5 @@
 -- Begin and step: what a checkpoint copies, saves and stores (document 01, Checkpoints).
-use Rattle.std.specs.Prelude.{false, not, cond, List, [], ◌∷◌, ◌++◌, map, ℕ, suc, ◌+◌, ◌*◌, eqb, length, take, drop}
-use Rattle.std.proofs.Math.Option.{Option, none, some}
+use Rattle.std.specs.Prelude.{false, not, cond, List, [], ◌∷◌, ◌++◌, map, ℕ, suc, ◌+◌, ◌*◌, eqb, length, take, drop, Option, None, Some}
 use Rattle.words.specs.Words.{Store, block_at, bytes_to, numbers_to}
 use Rattle.rules.specs.declared.Geometry.{Geometry}
 use Rattle.rules.specs.declared.Backup.{Backup}
@@ -21,18 +20,18 @@ use Rattle.rules.specs.Power.{Plan, carry, guard}
 
 -- the block of the memory to which begin copies the CACHE block of a slot: pre-hidden to HOME, pre-dirty to CHECKPOINT
 unfoldable pub copied_to : Geometry → ℕ → Says → Option ℕ
-copied_to g slot free = none
-copied_to g slot (names block Clean) = none
-copied_to g slot (names block Dirty) = none
-copied_to g slot (names block Hidden) = none
-copied_to g slot (names block PreHidden) = some (home_block g block)
-copied_to g slot (names block PreDirty) = some (checkpoint_block g slot)
-copied_to g slot neither = none
+copied_to g slot free = None
+copied_to g slot (names block Clean) = None
+copied_to g slot (names block Dirty) = None
+copied_to g slot (names block Hidden) = None
+copied_to g slot (names block PreHidden) = Some (home_block g block)
+copied_to g slot (names block PreDirty) = Some (checkpoint_block g slot)
+copied_to g slot neither = None
 
 unfoldable pub copy_of : List ℕ → ℕ → Option ℕ → List Store
 unfolding bytes_to block_at
-copy_of cache slot none = []
-copy_of cache slot (some q) = bytes_to (8 * q) 8 (block_at cache slot)
+copy_of cache slot None = []
+copy_of cache slot (Some q) = bytes_to (8 * q) 8 (block_at cache slot)
 
 -- the copies of the slots from `slot` on, in ascending order
 unfoldable pub copies : Geometry → List ℕ → ℕ → List ℕ → List Store
@@ -42,11 +41,11 @@ copies g cache slot (word ∷ table) = copy_of cache slot (copied_to g slot (say
 
 -- pre-dirty and dirty become clean, pre-hidden and hidden become free
 unfoldable pub begun : State → Option State
-begun Clean = some Clean
-begun Dirty = some Clean
-begun Hidden = none
-begun PreHidden = none
-begun PreDirty = some Clean
+begun Clean = Some Clean
+begun Dirty = Some Clean
+begun Hidden = None
+begun PreHidden = None
+begun PreDirty = Some Clean
 
 unfoldable pub begin_number : Board → List ℕ → Number
 unfolding first_of common_checks
@@ -74,11 +73,11 @@ begin_plan board registers =
 
 -- a backup table word is 256 x block + 1 for clean and pre-hidden, else 0
 unfoldable pub saved : State → Option State
-saved Clean = some Clean
-saved Dirty = none
-saved Hidden = none
-saved PreHidden = some Clean
-saved PreDirty = none
+saved Clean = Some Clean
+saved Dirty = None
+saved Hidden = None
+saved PreHidden = Some Clean
+saved PreDirty = None
 
 -- the backup that isn't finished
 abbrev pub other : Backup → Backup

@@ -1,11 +1,10 @@
 -- Where a block shows, load and peek (document 01, Where a block shows).
-use Rattle.std.specs.Prelude.{false, List, [], ◌∷◌, ◌++◌, ℕ, take, drop}
+use Rattle.std.specs.Prelude.{false, List, [], ◌∷◌, ◌++◌, ℕ, take, drop, Option, Some, None}
 use Rattle.words.specs.Words.{block_at}
 use Rattle.rules.specs.declared.Geometry.{Geometry}
 use Rattle.rules.specs.declared.State.{State}
 use Rattle.rules.specs.declared.State.TheVariants.{Clean, Dirty, Hidden, PreHidden, PreDirty}
-use Rattle.rules.specs.declared.Lookup.{Lookup}
-use Rattle.rules.specs.declared.Lookup.TheVariants.{Entry, Nothing}
+use Rattle.rules.specs.declared.Entry.{Entry}
 use Rattle.rules.specs.declared.Place.{Place}
 use Rattle.rules.specs.declared.Place.TheVariants.{Home, Checkpoint, Cache}
 use Rattle.rules.specs.declared.Number.{Number}
@@ -35,10 +34,10 @@ shows Dirty = Checkpoint
 shows PreHidden = Cache
 shows PreDirty = Cache
 
-unfoldable pub spot_of : Geometry → ℕ → Lookup → Spot
+unfoldable pub spot_of : Geometry → ℕ → Option Entry → Spot
 unfolding spot_in
-spot_of g block Nothing = in_memory (home_block g block)
-spot_of g block (Entry slot state) = spot_in g block slot (shows state)
+spot_of g block None = in_memory (home_block g block)
+spot_of g block (Some entry) = spot_in g block entry.slot (shows entry.state)
 
 unfoldable pub block_in : List ℕ → List ℕ → Spot → List ℕ
 unfolding block_at

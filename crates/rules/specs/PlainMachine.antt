@@ -1,6 +1,5 @@
 -- The plain machine that a board must look like: live blocks, kept blocks and registers, a checkpoint on its way.
-use Rattle.std.specs.Prelude.{Bool, false, ◌||◌, cond, List, [], ◌∷◌, ℕ, zero, suc, eqb, replicate}
-use Rattle.std.proofs.Math.Option.{Option, none, some}
+use Rattle.std.specs.Prelude.{Bool, false, ◌||◌, cond, List, [], ◌∷◌, ℕ, zero, suc, eqb, replicate, Option, None, Some}
 use Rattle.words.specs.Words.{Store, block_at}
 use Rattle.rules.specs.declared.Geometry.{Geometry}
 use Rattle.rules.specs.declared.Backup.{Backup}
@@ -25,8 +24,8 @@ pub record Plain : Type 0 where
 unfoldable pub formatted : ℕ → Plain
 formatted fill = record {
   live = λ block. replicate 64 fill;
-  kept = record { blocks = λ block. replicate 64 fill; registers = none };
-  on_its_way = none;
+  kept = record { blocks = λ block. replicate 64 fill; registers = None };
+  on_its_way = None;
 }
 
 -- what a backup saves of a memory: every block at its saved place, and the registers or their absence
@@ -40,9 +39,9 @@ saved_in g memory backup = record {
 -- after the recovery of a memory of which nothing was known: what its finished backup saves
 unfoldable pub opened_from : Geometry → List ℕ → Option Backup → Option Plain
 unfolding saved_in
-opened_from g memory none = none
-opened_from g memory (some backup) =
-    some (record { live = (saved_in g memory backup).blocks; kept = saved_in g memory backup; on_its_way = none })
+opened_from g memory None = None
+opened_from g memory (Some backup) =
+    Some (record { live = (saved_in g memory backup).blocks; kept = saved_in g memory backup; on_its_way = None })
 
 unfoldable pub opened : Geometry → List ℕ → Option Plain
 unfolding opened_from finished_in
@@ -72,11 +71,11 @@ did plain (store block offset bytes) zero =
     record { live = update plain.live block (overlaid (plain.live block) offset bytes); kept = plain.kept; on_its_way = plain.on_its_way }
 did plain (store block offset bytes) (suc n) = plain
 did plain (begin registers) zero =
-    record { live = plain.live; kept = plain.kept; on_its_way = some (record { blocks = plain.live; registers = some registers }) }
+    record { live = plain.live; kept = plain.kept; on_its_way = Some (record { blocks = plain.live; registers = Some registers }) }
 did plain (begin registers) (suc n) = plain
 did plain (step count) n = plain
 did plain (format g fill) n = plain
-did plain (recover g) zero = record { live = plain.kept.blocks; kept = plain.kept; on_its_way = none }
+did plain (recover g) zero = record { live = plain.kept.blocks; kept = plain.kept; on_its_way = None }
 did plain (recover g) (suc n) = plain
 -- no load changes
 did plain (sweep limit) n = plain
@@ -88,12 +87,12 @@ has_mark g [] = false
 has_mark g (s ∷ stores) = eqb s.place (mark_start g) || has_mark g stores
 
 unfoldable pub kept_or : Picture → Option Picture → Picture
-kept_or kept none = kept
-kept_or kept (some picture) = picture
+kept_or kept None = kept
+kept_or kept (Some picture) = picture
 
 unfoldable pub finish : Plain → Plain
 unfolding kept_or
-finish plain = record { live = plain.live; kept = kept_or plain.kept plain.on_its_way; on_its_way = none }
+finish plain = record { live = plain.live; kept = kept_or plain.kept plain.on_its_way; on_its_way = None }
 
 -- the plain machine after a call that was answered with the number n and stored these words
 unfoldable pub note : Geometry → Plain → Call → ℕ → List Store → Plain

@@ -1,19 +1,17 @@
 -- Demands 2 and 3 as statements, and what the later requests ask of them: what the assessor stamps.
 -- Their proofs are in proofs/Demand2.antt, Demand3.antt, Moves.antt, NoneFinished.antt and ShortStores.antt.
-use Rattle.std.specs.Prelude.{◌≡◌, ◌≢◌, ◌↔◌, List, map, ℕ, ◌+◌, ◌*◌, ◌≤◌, ◌<◌, min, length, get_or, set, take, drop, replicate}
-use Rattle.std.proofs.Math.Option.{none, some}
+use Rattle.std.specs.Prelude.{◌≡◌, ◌≢◌, ◌↔◌, List, map, ℕ, ◌+◌, ◌*◌, ◌≤◌, ◌<◌, min, length, get_or, set, take, drop, replicate, Some, None}
 use Rattle.words.specs.Words.{word, lay, number}
 use Rattle.rules.specs.declared.Geometry.{Geometry}
 use Rattle.rules.specs.declared.Backup.{Backup}
 use Rattle.rules.specs.declared.Backup.TheVariants.{B}
 use Rattle.rules.specs.declared.State.{State}
 use Rattle.rules.specs.declared.State.TheVariants.{Dirty, Hidden}
-use Rattle.rules.specs.declared.Lookup.TheVariants.{Entry}
 use Rattle.rules.specs.declared.Phase.TheVariants.{Running}
 use Rattle.rules.specs.declared.Place.{Place}
 use Rattle.rules.specs.declared.Window.{Window}
 use Rattle.rules.specs.Geometry.{mark_start}
-use Rattle.rules.specs.TableWords.{word_of, lookup, lowest_free, changed}
+use Rattle.rules.specs.TableWords.{entry_at, word_of, lookup, lowest_free, changed}
 use Rattle.rules.specs.Board.{Board, Volatile, sizes, phase_of, cache_of, table_of}
 use Rattle.rules.specs.Numbers.{number_of}
 use Rattle.rules.specs.Power.{Outcome, settle, stored}
@@ -59,7 +57,7 @@ pub record RecoversTo (g : Geometry) (picture : Picture) (memory : List ℕ) : T
 -- Which picture is kept then is decided by the mark word being among the words stored, and by nothing else (`note`).
 pub record Safe (g : Geometry) (run : Run) : Type 0 where
   pub plain : Plain
-  pub stands : run.promise ≡ some plain
+  pub stands : run.promise ≡ Some plain
   -- its live blocks, of which a begin takes the picture, are what loads give
   pub shows : Shows run.board plain
   pub now : RecoversTo g plain.kept run.board.memory
@@ -77,7 +75,7 @@ Demand3 = (g : Geometry) (from : FromFormat g) → Safe g (run_from from)
 -- a recovery is accepted, hands out no registers and leaves zeros in the record
 pub record WithoutRegisters (outcome : Outcome) : Type 0 where
   pub accepted : number_of outcome.number ≡ 0
-  pub registers : registers_given outcome.gives ≡ none
+  pub registers : registers_given outcome.gives ≡ None
   pub in_record : outcome.board.volatile.controller.registers ≡ replicate 64 0
 
 -- until a checkpoint is finished after the format there are no registers, whatever the volatile memory holds
@@ -106,8 +104,8 @@ NextToB =
 unfoldable pub Demand2 : Type 0
 Demand2 =
     (board : Board) (events : List Event) (plain : Plain)
-    → (runs events (record { board = board; promise = none })).promise ≡ some plain
-    → Shows (runs events (record { board = board; promise = none })).board plain
+    → (runs events (record { board = board; promise = None })).promise ≡ Some plain
+    → Shows (runs events (record { board = board; promise = None })).board plain
 
 -- ---- demand 2: a store that passes the checks 1 to 6 is refused for lack of room exactly when there is none
 
@@ -134,14 +132,14 @@ pub record StoreLeaves (board : Board) (block offset : ℕ) (bytes : List ℕ) (
   pub place : Place
   pub state : State
   pub row : move_in (phase_of board) (stores (lookup block (table_of board))) ≡ to place state
-  pub taken : slot_for (lookup block (table_of board)) (lowest_free (table_of board)) ≡ some slot
+  pub taken : slot_for (lookup block (table_of board)) (lowest_free (table_of board)) ≡ Some slot
   pub table : table_of after ≡ set (table_of board) slot (word_of block state)
   pub new : block_in after.memory (cache_of after) (spot_in (sizes board) block slot place) ≡ replaced (seen board block) offset bytes
 
 -- an accepted recovery: the table of the backup that the mark names
 pub record RecoveryLeaves (board : Board) (g : Geometry) (after : Board) : Type 0 where
   pub backup : Backup
-  pub named : finished_in g board.memory ≡ some backup
+  pub named : finished_in g board.memory ≡ Some backup
   pub table : table_of after ≡ table_in g board.memory backup
   pub registers : after.volatile.controller.registers ≡ recorded (saved_registers g board.memory backup)
   -- it stores no nonvolatile word
@@ -201,7 +199,7 @@ unfoldable pub ShortStores : Type 0
 ShortStores =
     (board : Board) (block offset : ℕ) (bytes : List ℕ) (slot : ℕ) (state : State)
     → phase_of board ≡ Running
-    → lookup block (table_of board) ≡ Entry slot state
+    → lookup block (table_of board) ≡ entry_at slot state
     → DirtyOrHidden state
     → number_of (store_number board block offset bytes) ≡ 0
     → ShortList board block offset bytes
@@ -210,7 +208,7 @@ ShortStores =
 unfoldable pub PlanElsewhere : Type 0
 PlanElsewhere =
     (board : Board) (block offset : ℕ) (bytes : List ℕ)
-    → ((slot : ℕ) (state : State) → phase_of board ≡ Running → DirtyOrHidden state → lookup block (table_of board) ≢ Entry slot state)
+    → ((slot : ℕ) (state : State) → phase_of board ≡ Running → DirtyOrHidden state → lookup block (table_of board) ≢ entry_at slot state)
     → plan board (store block offset bytes) ≡ store_by all board block offset bytes
 
 -- while Running these are 8 words, of which the supply stores the first p
@@ -218,7 +216,7 @@ unfoldable pub EightElsewhere : Type 0
 EightElsewhere =
     (p : ℕ) (board : Board) (block offset : ℕ) (bytes : List ℕ)
     → phase_of board ≡ Running
-    → ((slot : ℕ) (state : State) → DirtyOrHidden state → lookup block (table_of board) ≢ Entry slot state)
+    → ((slot : ℕ) (state : State) → DirtyOrHidden state → lookup block (table_of board) ≢ entry_at slot state)
     → number_of (store_number board block offset bytes) ≡ 0
     → length (stored p (plan board (store block offset bytes))) ≡ min p 8
 

@@ -1,6 +1,5 @@
 -- Runs: lists of calls and losses of supply, and what stands promised after them.
-use Rattle.std.specs.Prelude.{◌≡◌, false, cond, List, [], ◌∷◌, ℕ, ◌*◌, eqb, length}
-use Rattle.std.proofs.Math.Option.{Option, none, some}
+use Rattle.std.specs.Prelude.{◌≡◌, false, cond, List, [], ◌∷◌, ℕ, ◌*◌, eqb, length, Option, None, Some}
 use Rattle.words.specs.Words.{Store}
 use Rattle.rules.specs.declared.Geometry.{Geometry}
 use Rattle.rules.specs.Board.{Board, Volatile, sizes}
@@ -23,35 +22,35 @@ pub record Run : Type 0 where
 -- what stands after a format: all anew where it was accepted, nothing where it was cut, the same where it was refused
 unfoldable pub after_format : Option Plain → ℕ → ℕ → Option Plain
 unfolding formatted
-after_format was fill n = cond (eqb n 0) (some (formatted fill)) (cond (eqb n 20) none was)
+after_format was fill n = cond (eqb n 0) (Some (formatted fill)) (cond (eqb n 20) None was)
 
 -- what stands after a call of which nothing stood before: only an accepted recovery (or format) starts a promise
 unfoldable pub from_none : Call → ℕ → Board → Option Plain
 unfolding opened after_format
-from_none (load block offset len) n board = none
-from_none (peek block) n board = none
-from_none (store block offset bytes) n board = none
-from_none (begin registers) n board = none
-from_none (step count) n board = none
-from_none (format g fill) n board = after_format none fill n
-from_none (recover g) n board = cond (eqb n 0) (opened g board.memory) none
-from_none (sweep limit) n board = none
+from_none (load block offset len) n board = None
+from_none (peek block) n board = None
+from_none (store block offset bytes) n board = None
+from_none (begin registers) n board = None
+from_none (step count) n board = None
+from_none (format g fill) n board = after_format None fill n
+from_none (recover g) n board = cond (eqb n 0) (opened g board.memory) None
+from_none (sweep limit) n board = None
 
 unfoldable pub from_some : Geometry → Plain → Call → ℕ → List Store → Option Plain
 unfolding note after_format
-from_some g plain (load block offset len) n stores = some (note g plain (load block offset len) n stores)
-from_some g plain (peek block) n stores = some (note g plain (peek block) n stores)
-from_some g plain (store block offset bytes) n stores = some (note g plain (store block offset bytes) n stores)
-from_some g plain (begin registers) n stores = some (note g plain (begin registers) n stores)
-from_some g plain (step count) n stores = some (note g plain (step count) n stores)
-from_some g plain (format h fill) n stores = after_format (some plain) fill n
-from_some g plain (recover h) n stores = some (note g plain (recover h) n stores)
-from_some g plain (sweep limit) n stores = some (note g plain (sweep limit) n stores)
+from_some g plain (load block offset len) n stores = Some (note g plain (load block offset len) n stores)
+from_some g plain (peek block) n stores = Some (note g plain (peek block) n stores)
+from_some g plain (store block offset bytes) n stores = Some (note g plain (store block offset bytes) n stores)
+from_some g plain (begin registers) n stores = Some (note g plain (begin registers) n stores)
+from_some g plain (step count) n stores = Some (note g plain (step count) n stores)
+from_some g plain (format h fill) n stores = after_format (Some plain) fill n
+from_some g plain (recover h) n stores = Some (note g plain (recover h) n stores)
+from_some g plain (sweep limit) n stores = Some (note g plain (sweep limit) n stores)
 
 unfoldable pub promised : Geometry → Option Plain → Call → Outcome → List Store → Option Plain
 unfolding from_none from_some number_of
-promised g none c outcome stores = from_none c (number_of outcome.number) outcome.board
-promised g (some plain) c outcome stores = from_some g plain c (number_of outcome.number) stores
+promised g None c outcome stores = from_none c (number_of outcome.number) outcome.board
+promised g (Some plain) c outcome stores = from_some g plain c (number_of outcome.number) stores
 
 unfoldable pub doing : ℕ → Call → Run → Run
 unfolding promised call plan stored
@@ -61,7 +60,7 @@ doing p c run =
 
 -- a recovery after a loss that is refused leaves lost volatile memory behind, of which nothing is promised
 unfoldable pub unless_refused : ℕ → Option Plain → Option Plain
-unless_refused n promise = cond (eqb n 0) promise none
+unless_refused n promise = cond (eqb n 0) promise None
 
 unfoldable pub stopping : Volatile → Run → Run
 unfolding promised call plan stored unless_refused
@@ -122,7 +121,7 @@ pub record FromFormat (g : Geometry) : Type 0 where
 
 -- the format counts as the first checkpoint
 abbrev pub formatted_run : {g : Geometry} → FromFormat g → Run
-formatted_run {g} from = record { board = (call from.p from.before (format g from.fill)).board; promise = some (formatted from.fill) }
+formatted_run {g} from = record { board = (call from.p from.before (format g from.fill)).board; promise = Some (formatted from.fill) }
 
 -- the run as it stands after the events
 abbrev pub run_from : {g : Geometry} → FromFormat g → Run

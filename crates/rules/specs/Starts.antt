@@ -1,6 +1,5 @@
 -- Format and recovery, and what of a memory a recovery reads (document 01, Checkpoints).
-use Rattle.std.specs.Prelude.{◌≡◌, Bool, true, false, not, ◌&&◌, ◌||◌, cond, List, [], ◌∷◌, ◌++◌, ℕ, zero, suc, ◌+◌, ◌*◌, eqb, ltb, leb, replicate}
-use Rattle.std.proofs.Math.Option.{Option, none, some}
+use Rattle.std.specs.Prelude.{◌≡◌, Bool, true, false, not, ◌&&◌, ◌||◌, cond, List, [], ◌∷◌, ◌++◌, ℕ, zero, suc, ◌+◌, ◌*◌, eqb, ltb, leb, replicate, Option, Some, None}
 use Rattle.words.specs.Words.{Store, word, words, number, numbers, fill_to, numbers_to}
 use Rattle.rules.specs.declared.Geometry.{Geometry}
 use Rattle.rules.specs.declared.Backup.{Backup}
@@ -8,8 +7,7 @@ use Rattle.rules.specs.declared.Backup.TheVariants.{A, B}
 use Rattle.rules.specs.declared.Phase.TheVariants.{Running}
 use Rattle.rules.specs.declared.State.{State}
 use Rattle.rules.specs.declared.State.TheVariants.{Clean, Dirty, Hidden, PreHidden, PreDirty}
-use Rattle.rules.specs.declared.Lookup.{Lookup}
-use Rattle.rules.specs.declared.Lookup.TheVariants.{Entry, Nothing}
+use Rattle.rules.specs.declared.Entry.{Entry}
 use Rattle.rules.specs.declared.Number.{Number}
 use Rattle.rules.specs.declared.Number.TheVariants as No
 use Rattle.rules.specs.declared.Registers.{Registers}
@@ -54,7 +52,7 @@ format_plan board g fill = guard (format_number board g) (carry (format_list g f
 -- the mark: 1 = A is finished, 2 = B is finished, 3 = A is finished and has no registers, all else = none;
 -- it is compared as a whole 64-bit word
 unfoldable pub finished_by : ℕ → Option Backup
-finished_by mark = cond (eqb mark 1) (some A) (cond (eqb mark 2) (some B) (cond (eqb mark 3) (some A) none))
+finished_by mark = cond (eqb mark 1) (Some A) (cond (eqb mark 2) (Some B) (cond (eqb mark 3) (Some A) None))
 
 unfoldable pub has_registers : ℕ → Bool
 has_registers mark = not (eqb mark 3)
@@ -73,7 +71,7 @@ registers_in g memory backup = words memory (backup_start g backup) 8
 -- the registers of the finished backup, or their absence
 unfoldable pub saved_registers : Geometry → List ℕ → Backup → Option (List ℕ)
 unfolding has_registers number word registers_in
-saved_registers g memory backup = cond (has_registers (mark_in g memory)) (some (registers_in g memory backup)) none
+saved_registers g memory backup = cond (has_registers (mark_in g memory)) (Some (registers_in g memory backup)) None
 
 unfoldable pub table_in : Geometry → List ℕ → Backup → List ℕ
 unfolding numbers
@@ -93,14 +91,14 @@ sound g table = every (well_formed only_clean g) table && distinct table
 
 -- 10 NO CHECKPOINT: a mark other than 1, 2 or 3
 unfoldable pub no_checkpoint : Option Backup → Bool
-no_checkpoint none = true
-no_checkpoint (some backup) = false
+no_checkpoint None = true
+no_checkpoint (Some backup) = false
 
 -- 11 BACKUP: the finished table isn't sound
 unfoldable pub unsound : Geometry → List ℕ → Option Backup → Bool
 unfolding sound table_in
-unsound g memory none = false
-unsound g memory (some backup) = not (sound g (table_in g memory backup))
+unsound g memory None = false
+unsound g memory (Some backup) = not (sound g (table_in g memory backup))
 
 -- ---- recovery
 
@@ -114,17 +112,17 @@ recover_number board g finished = first_of ((outside g ⇒ No.Geometry) ∷ (ine
 
 -- where there are no registers none are handed out, and the record's are 0
 unfoldable pub handed_out : Option (List ℕ) → List ℕ
-handed_out none = []
-handed_out (some registers) = registers
+handed_out None = []
+handed_out (Some registers) = registers
 
 unfoldable pub recorded : Option (List ℕ) → List ℕ
-recorded none = replicate 64 0
-recorded (some registers) = registers
+recorded None = replicate 64 0
+recorded (Some registers) = registers
 
 unfoldable pub recover_from : Board → Geometry → Option Backup → Plan
 unfolding saved_registers table_in handed_out recorded
-recover_from board g none = refuse No.NoCheckpoint
-recover_from board g (some backup) =
+recover_from board g None = refuse No.NoCheckpoint
+recover_from board g (Some backup) =
     let registers = saved_registers g board.memory backup in
     carry []
     (record {
@@ -142,13 +140,13 @@ recover_plan board g =
 
 -- what the bytes handed out say of the registers: these ones, or that there are none
 unfoldable pub registers_given : List ℕ → Option (List ℕ)
-registers_given [] = none
-registers_given (byte ∷ bytes) = some (byte ∷ bytes)
+registers_given [] = None
+registers_given (byte ∷ bytes) = Some (byte ∷ bytes)
 
 -- registers or none as a value, by what an answer says of them and the record's bytes
 abbrev pub registers_of : Registers → List ℕ → Option (List ℕ)
-registers_of Saved bytes = some bytes
-registers_of Absent bytes = none
+registers_of Saved bytes = Some bytes
+registers_of Absent bytes = None
 
 -- a recovery answers r and leaves these bytes: what it says is the outcome's, all of it
 pub record Recovered (outcome : Outcome) (r : Recovery) (memory cache table : List ℕ) : Type 0 where
@@ -159,9 +157,9 @@ pub record Recovered (outcome : Outcome) (r : Recovery) (memory cache table : Li
 
 -- ---- the place where a block is saved, by the words of a backup's table
 
-unfoldable pub saved_by : Geometry → ℕ → Lookup → ℕ
-saved_by g block Nothing = home_block g block
-saved_by g block (Entry slot state) = checkpoint_block g slot
+unfoldable pub saved_by : Geometry → ℕ → Option Entry → ℕ
+saved_by g block None = home_block g block
+saved_by g block (Some entry) = checkpoint_block g entry.slot
 
 unfoldable pub saved_block : Geometry → List ℕ → ℕ → ℕ
 unfolding saved_by lookup
@@ -179,8 +177,8 @@ saves_block g table (suc block) place = within (8 * saved_block g table block) 8
 
 unfoldable pub protected_by : Geometry → List ℕ → Option Backup → ℕ → Bool
 unfolding within saves_block table_in
-protected_by g memory none place = eqb place (mark_start g)
-protected_by g memory (some backup) place =
+protected_by g memory None place = eqb place (mark_start g)
+protected_by g memory (Some backup) place =
     eqb place (mark_start g)
     || within (backup_start g backup) (backup_words g) place
     || saves_block g (table_in g memory backup) g.blocks place

@@ -1,13 +1,11 @@
 -- Stores: where the new block goes, which of its words are stored, and what becomes of its entry (document 01, Stores; document 02, No. 5).
-use Rattle.std.specs.Prelude.{Bool, true, false, cond, List, [], ◌∷◌, ◌++◌, ℕ, ◌+◌, ◌*◌, ◌-◌, ◌/◌, length, take, drop, set}
-use Rattle.std.proofs.Math.Option.{Option, none, some}
+use Rattle.std.specs.Prelude.{Bool, true, false, cond, List, [], ◌∷◌, ◌++◌, ℕ, ◌+◌, ◌*◌, ◌-◌, ◌/◌, length, take, drop, set, Option, Some, None}
 use Rattle.words.specs.Words.{Store, bytes_to, lay}
 use Rattle.rules.specs.declared.Phase.{Phase}
 use Rattle.rules.specs.declared.Phase.TheVariants.{Running, Writing, Off}
 use Rattle.rules.specs.declared.State.{State}
 use Rattle.rules.specs.declared.State.TheVariants.{Clean, Dirty, Hidden, PreHidden, PreDirty}
-use Rattle.rules.specs.declared.Lookup.{Lookup}
-use Rattle.rules.specs.declared.Lookup.TheVariants.{Entry, Nothing}
+use Rattle.rules.specs.declared.Entry.{Entry}
 use Rattle.rules.specs.declared.Place.{Place}
 use Rattle.rules.specs.declared.Place.TheVariants.{Home, Checkpoint, Cache}
 use Rattle.rules.specs.declared.Window.{Window}
@@ -35,14 +33,18 @@ pub record Row : Type 0 where
 abbrev row : Move → Move → Row
 row running writing = record { running = running; writing = writing }
 
--- the table of stores: the entry, the column Running, the column Writing
-unfoldable pub stores : Lookup → Row
-stores Nothing = row (to Checkpoint Dirty) (to Cache PreDirty)
-stores (Entry slot Clean) = row (to Home Hidden) (to Cache PreHidden)
-stores (Entry slot Dirty) = row (to Checkpoint Dirty) not_well_formed
-stores (Entry slot Hidden) = row (to Home Hidden) not_well_formed
-stores (Entry slot PreHidden) = row (to Home Hidden) (to Cache PreHidden)
-stores (Entry slot PreDirty) = row (to Checkpoint Dirty) (to Cache PreDirty)
+-- the table of stores: the entry's state, or none, the column Running, the column Writing
+abbrev row_of : Option State → Row
+row_of None = row (to Checkpoint Dirty) (to Cache PreDirty)
+row_of (Some Clean) = row (to Home Hidden) (to Cache PreHidden)
+row_of (Some Dirty) = row (to Checkpoint Dirty) not_well_formed
+row_of (Some Hidden) = row (to Home Hidden) not_well_formed
+row_of (Some PreHidden) = row (to Home Hidden) (to Cache PreHidden)
+row_of (Some PreDirty) = row (to Checkpoint Dirty) (to Cache PreDirty)
+
+unfoldable pub stores : Option Entry → Row
+stores None = row_of None
+stores (Some entry) = row_of (Some entry.state)
 
 -- the column of the phase; a store while Off is refused before it is asked
 unfoldable pub move_in : Phase → Row → Move
@@ -51,14 +53,14 @@ move_in (Writing count) r = r.writing
 move_in Off r = not_well_formed
 
 -- the slot: that of the entry, else the lowest free slot
-unfoldable pub slot_for : Lookup → Option ℕ → Option ℕ
-slot_for (Entry slot state) lowest = some slot
-slot_for Nothing lowest = lowest
+unfoldable pub slot_for : Option Entry → Option ℕ → Option ℕ
+slot_for (Some entry) lowest = Some entry.slot
+slot_for None lowest = lowest
 
 -- 7 FULL: no entry and no free slot
 unfoldable pub full : Option ℕ → Bool
-full none = true
-full (some slot) = false
+full None = true
+full (Some slot) = false
 
 unfoldable pub store_number : Board → ℕ → ℕ → List ℕ → Number
 unfolding first_of common_checks out_of_range full slot_for lookup lowest_free
@@ -80,15 +82,18 @@ unfoldable pub touched : ℕ → ℕ → Window
 touched offset len = record { first = offset / 8; count = (offset + len + 7) / 8 - offset / 8 }
 
 -- which of the two: the state found decides, not the state after (document 02, No. 5)
-unfoldable pub dirty_or_hidden : Lookup → Bool
-dirty_or_hidden Nothing = false
-dirty_or_hidden (Entry slot Clean) = false
-dirty_or_hidden (Entry slot Dirty) = true
-dirty_or_hidden (Entry slot Hidden) = true
-dirty_or_hidden (Entry slot PreHidden) = false
-dirty_or_hidden (Entry slot PreDirty) = false
+abbrev dirty_or_hidden_state : State → Bool
+dirty_or_hidden_state Clean = false
+dirty_or_hidden_state Dirty = true
+dirty_or_hidden_state Hidden = true
+dirty_or_hidden_state PreHidden = false
+dirty_or_hidden_state PreDirty = false
 
-unfoldable pub is_short : Phase → Lookup → Bool
+unfoldable pub dirty_or_hidden : Option Entry → Bool
+dirty_or_hidden None = false
+dirty_or_hidden (Some entry) = dirty_or_hidden_state entry.state
+
+unfoldable pub is_short : Phase → Option Entry → Bool
 unfolding dirty_or_hidden
 is_short Running found = dirty_or_hidden found
 is_short (Writing count) found = false
@@ -121,8 +126,8 @@ moved board block slot new window not_well_formed = refuse No.Table
 
 unfoldable pub moved_to : Board → ℕ → Option ℕ → List ℕ → Window → Move → Plan
 unfolding moved
-moved_to board block none new window move = refuse No.Full
-moved_to board block (some slot) new window move = moved board block slot new window move
+moved_to board block None new window move = refuse No.Full
+moved_to board block (Some slot) new window move = moved board block slot new window move
 
 -- a store that lays these words of the new block; with all 8 it is document 01's
 unfoldable pub store_by : Window → Board → ℕ → ℕ → List ℕ → Plan

@@ -1,7 +1,6 @@
 -- What document 02, No. 7 asks of sweeps beside demands 2 and 3, which have them among their calls.
 -- The proofs are in proofs/SweepMoves.antt, SweepLoads.antt, RoomAgain.antt and NewBlocks.antt.
-use Rattle.std.specs.Prelude.{◌≡◌, ◌≢◌, true, false, List, [], ◌∷◌, ◌++◌, ℕ, ◌+◌, ◌*◌, ◌≤◌, ◌<◌, min, length, get_or, set, take, replicate}
-use Rattle.std.proofs.Math.Option.{none, some}
+use Rattle.std.specs.Prelude.{◌≡◌, ◌≢◌, true, false, List, [], ◌∷◌, ◌++◌, ℕ, ◌+◌, ◌*◌, ◌≤◌, ◌<◌, min, length, get_or, set, take, replicate, None, Some}
 use Rattle.words.specs.Words.{Store}
 use Rattle.rules.specs.declared.State.TheVariants.{Clean, Dirty, Hidden, PreHidden, PreDirty}
 use Rattle.rules.specs.TableWords.{word_of, Says, free, names, neither, says, distinct}
@@ -78,8 +77,8 @@ NoLoadChanges =
 unfoldable pub NeverTwice : Type 0
 NeverTwice =
     (board : Board) (events : List Event) (plain : Plain)
-    → let run = runs events (record { board = board; promise = none }) in
-    run.promise ≡ some plain
+    → let run = runs events (record { board = board; promise = None }) in
+    run.promise ≡ Some plain
     → is_off (phase_of run.board) ≡ false
     → distinct (table_of run.board) ≡ true
 
@@ -176,16 +175,16 @@ pub record RoomMade (after : Board) : Type 0 where
   pub board : Board
   pub events : List Event
   pub plain : Plain
-  pub stands : (runs events (record { board = board; promise = none })).promise ≡ some plain
+  pub stands : (runs events (record { board = board; promise = None })).promise ≡ Some plain
   pub limit : ℕ
   pub some_limit : 1 ≤ limit
-  pub some_clean : 1 ≤ clean_in (table_of (runs events (record { board = board; promise = none })).board)
+  pub some_clean : 1 ≤ clean_in (table_of (runs events (record { board = board; promise = None })).board)
   pub registers : List ℕ
   pub finish : List Asked
   pub between : AllBetween finish
   pub p₁ : ℕ
   pub p₂ : ℕ
-  pub done : AllDone (runs events (record { board = board; promise = none })).board (asks p₁ (sweep limit) ∷ asks p₂ (begin registers) ∷ finish) after
+  pub done : AllDone (runs events (record { board = board; promise = None })).board (asks p₁ (sweep limit) ∷ asks p₂ (begin registers) ∷ finish) after
 
 -- every store in range is accepted then, from a supply of 8 words
 unfoldable pub RoomAgain : Type 0

@@ -1,10 +1,9 @@
 -- Table words: codes, the free word, lookup, the lowest free slot (document 01, What the board is).
-use Rattle.std.specs.Prelude.{Bool, true, false, ◌&&◌, cond, List, [], ◌∷◌, ℕ, suc, ◌+◌, ◌*◌, ◌/◌, ◌%◌, eqb}
-use Rattle.std.proofs.Math.Option.{Option, none, some}
+use Rattle.std.specs.Prelude.{◌≡◌, ◌<◌, ◌≤◌, Bool, true, false, ◌&&◌, cond, List, [], ◌∷◌, ℕ, suc, ◌+◌, ◌*◌, ◌/◌, ◌%◌, eqb, Option, Some, None, Result, MatchResult}
 use Rattle.rules.specs.declared.State.{State}
 use Rattle.rules.specs.declared.State.TheVariants.{Clean, Dirty, Hidden, PreHidden, PreDirty}
-use Rattle.rules.specs.declared.Lookup.{Lookup}
-use Rattle.rules.specs.declared.Lookup.TheVariants.{Entry, Nothing}
+use Rattle.rules.specs.declared.codes.NoState.{NoState}
+use Rattle.rules.specs.declared.Entry.{Entry}
 
 -- the code of a state
 abbrev pub code_of : State → ℕ
@@ -14,6 +13,10 @@ code_of Hidden = 3
 code_of PreHidden = 4
 code_of PreDirty = 5
 
+-- the state that a number stands for, or that number where it stands for none
+abbrev pub StateOf : ℕ → Result State NoState → Type 0
+StateOf code r = MatchResult r (λ state. code_of state ≡ code) (λ e. (e.0 ≡ code) × (1 ≤ code → 5 < code))
+
 -- a table word is 256 x block + code
 unfoldable pub word_of : ℕ → State → ℕ
 word_of block state = 256 * block + code_of state
@@ -21,8 +24,8 @@ word_of block state = 256 * block + code_of state
 -- the state that a code stands for
 unfoldable pub state_for : ℕ → Option State
 state_for code =
-    cond (eqb code 1) (some Clean)
-    (cond (eqb code 2) (some Dirty) (cond (eqb code 3) (some Hidden) (cond (eqb code 4) (some PreHidden) (cond (eqb code 5) (some PreDirty) none))))
+    cond (eqb code 1) (Some Clean)
+    (cond (eqb code 2) (Some Dirty) (cond (eqb code 3) (Some Hidden) (cond (eqb code 4) (Some PreHidden) (cond (eqb code 5) (Some PreDirty) None))))
 
 -- what a table word says: the slot is free, or it names a block and a state, or neither
 pub data Says : Type 0 where
@@ -31,8 +34,8 @@ pub data Says : Type 0 where
   neither : Says
 
 unfoldable pub says_of : ℕ → Option State → Says
-says_of block none = neither
-says_of block (some state) = names block state
+says_of block None = neither
+says_of block (Some state) = names block state
 
 unfoldable pub says : ℕ → Says
 unfolding says_of state_for
@@ -40,46 +43,50 @@ says word = cond (eqb word 0) free (says_of (word / 256) (state_for (word % 256)
 
 -- ---- lookup: the lowest slot that names the block, with its state, or nothing
 
-unfoldable pub is_nothing : Lookup → Bool
-is_nothing (Entry slot state) = false
-is_nothing Nothing = true
+-- the entry in a slot, as it is found
+abbrev pub entry_at : ℕ → State → Option Entry
+entry_at slot state = Some (record { slot = slot; state = state })
+
+unfoldable pub is_nothing : Option Entry → Bool
+is_nothing (Some entry) = false
+is_nothing None = true
 
 -- what is found in the rest of a table, counted from its start
-unfoldable pub one_on : Lookup → Lookup
-one_on (Entry slot state) = Entry (suc slot) state
-one_on Nothing = Nothing
+unfoldable pub one_on : Option Entry → Option Entry
+one_on (Some entry) = entry_at (suc entry.slot) entry.state
+one_on None = None
 
-unfoldable pub lookup_by : ℕ → Says → Lookup → Lookup
+unfoldable pub lookup_by : ℕ → Says → Option Entry → Option Entry
 unfolding one_on
 lookup_by block free rest = one_on rest
-lookup_by block (names k state) rest = cond (eqb k block) (Entry 0 state) (one_on rest)
+lookup_by block (names k state) rest = cond (eqb k block) (entry_at 0 state) (one_on rest)
 lookup_by block neither rest = one_on rest
 
-unfoldable pub lookup : ℕ → List ℕ → Lookup
+unfoldable pub lookup : ℕ → List ℕ → Option Entry
 unfolding lookup_by says
-lookup block [] = Nothing
+lookup block [] = None
 lookup block (word ∷ table) = lookup_by block (says word) (lookup block table)
 
 -- the values of a lookup's answer: the slot and the code of its state, or none
-unfoldable pub values_of : Lookup → List ℕ
-values_of (Entry slot state) = slot ∷ code_of state ∷ []
-values_of Nothing = []
+unfoldable pub values_of : Option Entry → List ℕ
+values_of (Some entry) = entry.slot ∷ code_of entry.state ∷ []
+values_of None = []
 
 -- ---- the lowest free slot, or none
 
 unfoldable pub slot_on : Option ℕ → Option ℕ
-slot_on none = none
-slot_on (some slot) = some (suc slot)
+slot_on None = None
+slot_on (Some slot) = Some (suc slot)
 
 unfoldable pub free_by : Says → Option ℕ → Option ℕ
 unfolding slot_on
-free_by free rest = some 0
+free_by free rest = Some 0
 free_by (names k state) rest = slot_on rest
 free_by neither rest = slot_on rest
 
 unfoldable pub lowest_free : List ℕ → Option ℕ
 unfolding free_by says
-lowest_free [] = none
+lowest_free [] = None
 lowest_free (word ∷ table) = free_by (says word) (lowest_free table)
 
 -- ---- no block twice
@@ -99,8 +106,8 @@ distinct (word ∷ table) = new_to table (says word) && distinct table
 
 unfoldable pub entry_or : ℕ → Option State → ℕ
 unfolding word_of
-entry_or block none = 0
-entry_or block (some state) = word_of block state
+entry_or block None = 0
+entry_or block (Some state) = word_of block state
 
 unfoldable pub changed_by : (State → Option State) → Says → ℕ
 unfolding entry_or

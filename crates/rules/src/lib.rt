@@ -4,8 +4,10 @@
 ghost use Rattle.std.specs.Prelude.{◌≡◌};
 ghost use Rattle.rules.specs.Geometry.{checkpoint_start, checkpoint_words, home_start, home_words, backup_start, backup_words, mark_start, memory_words};
 
+mod codes;
+
 // The sizes of a board: N blocks and B table slots. Two bytes each, so that no start of a part can overflow.
-#[derive(Clone, Copy)]
+#[derive(Clone, Copy, Debug, PartialEq, Eq)]
 pub struct Geometry {
     pub blocks: u16,
     pub slots: u16,
@@ -73,13 +75,13 @@ impl Geometry {
     }
 }
 
-#[derive(Clone, Copy)]
+#[derive(Clone, Copy, Debug, PartialEq, Eq)]
 pub enum Backup {
     A,
     B,
 }
 
-#[derive(Clone, Copy)]
+#[derive(Clone, Copy, Debug, PartialEq, Eq)]
 pub enum Phase {
     Running,
     // the count of words already stored
@@ -88,7 +90,7 @@ pub enum Phase {
 }
 
 // The controller record. It goes into a call and comes back by value.
-#[derive(Clone, Copy)]
+#[derive(Clone, Copy, Debug, PartialEq, Eq)]
 pub struct Controller {
     pub geometry: Geometry,
     pub registers: [u8; 64],
@@ -97,7 +99,7 @@ pub struct Controller {
 }
 
 // The state of an entry of the table.
-#[derive(Clone, Copy)]
+#[derive(Clone, Copy, Debug, PartialEq, Eq)]
 pub enum State {
     Clean,
     Dirty,
@@ -106,15 +108,15 @@ pub enum State {
     PreDirty,
 }
 
-// What a lookup finds.
-#[derive(Clone, Copy)]
-pub enum Lookup {
-    Entry { slot: usize, state: State },
-    Nothing,
+// An entry of the table, as a lookup finds it.
+#[derive(Clone, Copy, Debug, PartialEq, Eq)]
+pub struct Entry {
+    pub slot: usize,
+    pub state: State,
 }
 
 // A part of the board that holds blocks.
-#[derive(Clone, Copy)]
+#[derive(Clone, Copy, Debug, PartialEq, Eq)]
 pub enum Place {
     Home,
     Checkpoint,
@@ -122,14 +124,14 @@ pub enum Place {
 }
 
 // The words of a new block that a store lays: `count` of them, from word `first` of the block on.
-#[derive(Clone, Copy)]
+#[derive(Clone, Copy, Debug, PartialEq, Eq)]
 pub struct Window {
     pub first: usize,
     pub count: usize,
 }
 
 // The numbers returned, by their names.
-#[derive(Clone, Copy)]
+#[derive(Clone, Copy, Debug, PartialEq, Eq)]
 pub enum Number {
     Done,
     Geometry,
@@ -150,7 +152,7 @@ pub enum Number {
 }
 
 // The answer of a call that may store words or change the record.
-#[derive(Clone, Copy)]
+#[derive(Clone, Copy, Debug, PartialEq, Eq)]
 pub struct Answer {
     pub number: Number,
     pub words: usize,
@@ -158,14 +160,14 @@ pub struct Answer {
 }
 
 // Whether there are registers: a recovery hands them out in its record, or says that there are none (document 02, No. 2).
-#[derive(Clone, Copy)]
+#[derive(Clone, Copy, Debug, PartialEq, Eq)]
 pub enum Registers {
     Saved,
     Absent,
 }
 
 // The answer of a recovery.
-#[derive(Clone, Copy)]
+#[derive(Clone, Copy, Debug, PartialEq, Eq)]
 pub struct Recovery {
     pub answer: Answer,
     pub registers: Registers,

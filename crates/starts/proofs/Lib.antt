@@ -1,4 +1,3 @@
-pub mod Sizes
 pub mod Formatting
 pub mod Recovering
 pub mod Unique

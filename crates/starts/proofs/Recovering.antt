@@ -3,7 +3,7 @@ use mathlib.Core.Path.{◌≡◌, refl, sym, ap, ◌∙◌, subst}
 use mathlib.Core.Logic.{◌≢◌}
 use mathlib.Core.Bool.{Bool, true, false, not, cond}
 use mathlib.Core.List.{List, [], ◌∷◌}
-use mathlib.Core.Option.{Option, none, some}
+use Rattle.std.specs.Prelude.{Option, None, Some}
 use Prim.Native.Nat.{ℕ, ◌*◌}
 use native.Mathlib.Nat.{suc-ne-zero}
 use lib.ListN.{length}
@@ -80,18 +80,18 @@ module _ (m c t : List ℕ) (k : Controller) (g : Geometry) (n : Number) (e : n 
     unfolding recover_number
     goes f q = q ∙ sym (go_on {xs = first} (later f) refuse_first (ap number_of (sizes_checks_lem board g ∙ sym e) ∙ z))
 
-    pub no_checkpoint_lem : (p : ℕ) {r : Recovery} → finished_in g m ≡ none → r ≡ refused_recovery No.NoCheckpoint k → Recovered (call p board (recover g)) r m c t
+    pub no_checkpoint_lem : (p : ℕ) {r : Recovery} → finished_in g m ≡ None → r ≡ refused_recovery No.NoCheckpoint k → Recovered (call p board (recover g)) r m c t
     unfolding no_checkpoint number_of
     no_checkpoint_lem p f q =
-        refused_says No.NoCheckpoint q (call_is p none f ∙ refused_is p m c t k _ No.NoCheckpoint _ _ (goes none (hit _ refl)) (suc-ne-zero 9) refl)
+        refused_says No.NoCheckpoint q (call_is p None f ∙ refused_is p m c t k _ No.NoCheckpoint _ _ (goes None (hit _ refl)) (suc-ne-zero 9) refl)
 
-    module _ (p : ℕ) (backup : Backup) (f : finished_in g m ≡ some backup) where
+    module _ (p : ℕ) (backup : Backup) (f : finished_in g m ≡ Some backup) where
       not_sound : {r : Recovery} → sound g (table_in g m backup) ≡ false → r ≡ refused_recovery No.Backup k → Recovered (call p board (recover g)) r m c t
       unfolding no_checkpoint unsound number_of
       not_sound s q =
           refused_says No.Backup q
-          (call_is p (some backup) f
-          ∙ refused_is p m c t k _ No.Backup _ _ (goes (some backup) (miss No.NoCheckpoint _ refl (hit _ (ap not s)))) (suc-ne-zero 10) refl)
+          (call_is p (Some backup) f
+          ∙ refused_is p m c t k _ No.Backup _ _ (goes (Some backup) (miss No.NoCheckpoint _ refl (hit _ (ap not s)))) (suc-ne-zero 10) refl)
 
       after : Volatile
       after = record { cache = c; table = table_in g m backup; controller = opened_of g backup (saved_registers g m backup) }
@@ -99,8 +99,8 @@ module _ (m c t : List ℕ) (k : Controller) (g : Geometry) (n : Number) (e : n 
       goes_back : sound g (table_in g m backup) ≡ true → call p board (recover g) ≡ whole board [] after (handed_out (saved_registers g m backup))
       unfolding no_checkpoint unsound number_of recover_from after
       goes_back s =
-          call_is p (some backup) f
-          ∙ guard_on p board (recover_from board g (some backup)) No.Done _ (goes (some backup) (miss No.NoCheckpoint _ refl (miss No.Backup _ (ap not s) none_applies))) refl
+          call_is p (Some backup) f
+          ∙ guard_on p board (recover_from board g (Some backup)) No.Done _ (goes (Some backup) (miss No.NoCheckpoint _ refl (miss No.Backup _ (ap not s) none_applies))) refl
           ∙ carry_nothing p board _ _
 
       is_sound : (registers : Registers) (bytes : List ℕ) → registers_of registers bytes ≡ saved_registers g m backup → length m ≡ 8 * memory_words g → sound g (table_in g m backup) ≡ true
@@ -115,8 +115,8 @@ module _ (m c t : List ℕ) (k : Controller) (g : Geometry) (n : Number) (e : n 
             board = ap (λ (z : Option (List ℕ)). board_of m c (table_in g m backup) (opened_of g backup z)) x;
           })
 
-    pub recovered : (p : ℕ) (backup : Backup) (a : ℕ) (registers : Registers) {t' : List ℕ} {r : Recovery} → Ready g m c t → finished_in g m ≡ some backup → a ≡ backup_start g backup
-        → ((bytes : List ℕ) → registers_of registers bytes ≡ cond (has_registers (mark_in g m)) (some bytes) none)
+    pub recovered : (p : ℕ) (backup : Backup) (a : ℕ) (registers : Registers) {t' : List ℕ} {r : Recovery} → Ready g m c t → finished_in g m ≡ Some backup → a ≡ backup_start g backup
+        → ((bytes : List ℕ) → registers_of registers bytes ≡ cond (has_registers (mark_in g m)) (Some bytes) None)
         → Opens g backup registers k (from m a) t t' r → Recovered (call p board (recover g)) r m c t'
     recovered p backup a registers {t'} {r} l f y x o = go (sound g (table_in g m backup)) refl
       where

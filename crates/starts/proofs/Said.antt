@@ -3,7 +3,7 @@ use mathlib.Core.Path.{◌≡◌, refl, sym, ap, ◌∙◌}
 use mathlib.Core.Logic.{◌≢◌}
 use mathlib.Core.Bool.{Bool, true, false, cond}
 use mathlib.Core.List.{List, []}
-use mathlib.Core.Option.{Option, none, some}
+use Rattle.std.specs.Prelude.{Option, None, Some}
 use Prim.Native.Nat.{ℕ}
 use lib.Dec.{eqb}
 use Rattle.rules.specs.declared.Geometry.{Geometry}
@@ -20,7 +20,7 @@ use Rattle.rules.proofs.Clashes.{none_some}
 use Rattle.rules.proofs.Answers.{carry_nothing}
 use Rattle.starts.specs.Promises.{RefusedSaysNone, SaysThePicture, SaysNone}
 
-said_absent : (registers : Registers) (bytes : List ℕ) → registers_of registers bytes ≡ none → registers ≡ Absent
+said_absent : (registers : Registers) (bytes : List ℕ) → registers_of registers bytes ≡ None → registers ≡ Absent
 said_absent Saved bytes e = absurd (none_some bytes (sym e))
 said_absent Absent bytes e = refl
 
@@ -36,8 +36,8 @@ gives_nothing p board g = go (eqb (number_of (recover_number board g (finished_i
     out passed finished = settle p board (cond passed (recover_from board g finished) (refuse n))
 
     go : (passed : Bool) (finished : Option Backup) → number_of (out passed finished).number ≢ 0 → (out passed finished).gives ≡ []
-    go true none ne = refl
-    go true (some backup) ne = absurd (ne (ap (λ (o : Outcome). number_of o.number) (carry_nothing p board _ _)))
+    go true None ne = refl
+    go true (Some backup) ne = absurd (ne (ap (λ (o : Outcome). number_of o.number) (carry_nothing p board _ _)))
     go false finished ne = refl
 
 pub refused_says_none : RefusedSaysNone

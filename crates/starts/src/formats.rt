@@ -6,7 +6,7 @@ ghost use Rattle.rules.specs.Starts.{format_list};
 ghost use Rattle.starts.specs.Records.{cut_short_of};
 
 use rules::{Backup, Controller, Geometry, Phase};
-use words::{fill_words, lay_number, left_of};
+use words::{fill_words, lay_number};
 
 // The mark twice, HOME, and backup A: 8N + B + 10 words.
 pub fn format_words(g: Geometry) -> usize
@@ -23,12 +23,12 @@ pub fn lay_mark(memory: &mut [u8], g: Geometry, mark: u64, p: usize) -> usize
     lay_number(&mut memory[start..], 0, mark, p)
 }
 
+// The count is the list's, `fill_to place count`.
 pub fn lay_fill(memory: &mut [u8], place: usize, count: usize, fill: u8, p: usize) -> usize
     requires { 8 * (place + count) ≤ length memory.old }
     ensures { Lays p (fill_to place count fill) memory.old memory.new result }
 {
-    let start = 8 * place;
-    fill_words(&mut memory[start..], 0, count, fill, p)
+    fill_words(memory, place, count, fill, p)
 }
 
 pub fn lay_format(memory: &mut [u8], g: Geometry, fill: u8, p: usize) -> usize
@@ -41,11 +41,11 @@ pub fn lay_format(memory: &mut [u8], g: Geometry, fill: u8, p: usize) -> usize
     let backup_words = g.backup_words();
     // until the last word no backup is finished
     let unmarked = lay_mark(memory, g, 0, p);
-    let left1 = left_of(p, unmarked);
+    let left1 = p.saturating_sub(unmarked);
     let filled = lay_fill(memory, home, home_words, fill, left1);
-    let left2 = left_of(left1, filled);
+    let left2 = left1.saturating_sub(filled);
     let cleared = lay_fill(memory, backup, backup_words, 0, left2);
-    let left3 = left_of(left2, cleared);
+    let left3 = left2.saturating_sub(cleared);
     let marked = lay_mark(memory, g, 3, left3);
     unmarked + (filled + (cleared + marked))
 }
@@ -53,23 +53,16 @@ pub fn lay_format(memory: &mut [u8], g: Geometry, fill: u8, p: usize) -> usize
 pub fn clear_table(table: &mut [u64])
     ensures { table.new ≡ replicate (length table.old) 0 }
 {
-    let mut slot = 0;
-    while slot < table.len() {
-        table[slot] = 0;
-        slot += 1;
-    }
+    table.fill(0);
 }
 
 // A cut format records the new sizes.
 pub fn cut_short(controller: Controller, sizes: Geometry) -> Controller
     ensures { result ≡ cut_short_of controller sizes }
 {
-    let registers = controller.registers;
-    let finished = controller.finished;
     Controller {
         geometry: sizes,
-        registers: registers,
-        finished: finished,
         phase: Phase::Off,
+        ..controller
     }
 }

@@ -1,4 +1,5 @@
 // The calls that start a board: format and recovery (document 01, Checkpoints).
+// What is lent comes one by one, by & or &mut as the call needs it: one value of all of it would ask callers for more.
 #![tactic(auto)]
 
 ghost use Rattle.std.specs.Prelude.{◌≡◌, ℕ};
@@ -8,11 +9,9 @@ ghost use Rattle.rules.specs.Starts.{Recovered};
 ghost use Rattle.rules.specs.Calls as Call;
 
 use crate::formats::{clear_table, cut_short, format_words, lay_format};
-use backups::{
-    Marked, finished_by, mark_in, recover_from, refused_recovery, registers_by, started,
-};
+use backups::{finished_by, mark_in, recover_from, refused_recovery, registers_by, started};
 use checks::answers::{refused, reply};
-use checks::numbers::{accepted, sizes_number};
+use checks::numbers::check_sizes;
 use rules::{Answer, Backup, Controller, Geometry, Number, Recovery};
 
 pub mod formats;
@@ -28,19 +27,17 @@ pub fn format(
 ) -> Answer
     ensures { Call.call p (board_of memory.old cache.now table.old controller) (Call.format g fill) ≡ outcome_of result memory.new cache.now table.new }
 {
-    let number = sizes_number(memory, cache, table, g);
-    if !accepted(number) {
+    if let Err(number) = check_sizes(memory, cache, table, g) {
         return refused(number, controller);
     }
     // known before the first word is stored
     let words = format_words(g);
     lay_format(memory, g, fill, p);
     if p < words {
-        let off = cut_short(controller, g);
-        return reply(Number::Cut, p, off);
+        return reply(Number::Cut, p, cut_short(controller, g));
     }
     clear_table(table);
-    let formatted = started(g, Backup::A, [0u8; 64]);
+    let formatted = started(g, Backup::A, [0; 64]);
     reply(Number::Done, words, formatted)
 }
 
@@ -54,12 +51,11 @@ pub fn recover(
 ) -> Recovery
     ensures { (p : ℕ) → Recovered (Call.call p (board_of memory.now cache.now table.old controller) (Call.recover g)) result memory.now cache.now table.new }
 {
-    let number = sizes_number(memory, cache, table, g);
-    if !accepted(number) {
+    if let Err(number) = check_sizes(memory, cache, table, g) {
         return refused_recovery(number, controller);
     }
     let mark = mark_in(memory, g);
-    let Marked::Finished(backup) = finished_by(mark) else {
+    let Some(backup) = finished_by(mark) else {
         return refused_recovery(Number::NoCheckpoint, controller);
     };
     let registers = registers_by(mark);

@@ -1,4 +1,5 @@
 // Store: 1 to 64 bytes of one block replaced (document 01, Stores).
+// What is lent comes one by one, by & or &mut as the call needs it: one value of all of it would ask callers for more.
 #![tactic(auto)]
 
 ghost use Rattle.std.specs.Prelude.{◌≡◌, ◌<◌};
@@ -10,9 +11,9 @@ ghost use Rattle.rules.specs.Calls as C;
 ghost use Rattle.checks.specs.Tables.{Formed};
 
 use checks::answers::refused;
-use checks::numbers::accepted;
-use checks::table::{FreeSlot, seat_for};
-use loads::load_number;
+use checks::table::{Seat, seat_for};
+use loads::check_load;
+use merges::Patch;
 use moves::move_for;
 use placing::{spot_of, store_at};
 use rules::{Answer, Controller, Number};
@@ -32,7 +33,7 @@ pub fn store(
 {
     let g = controller.geometry;
     let phase = controller.phase;
-    let number = load_number(
+    if let Err(number) = check_load(
         memory.len(),
         cache.len(),
         table,
@@ -41,24 +42,22 @@ pub fn store(
         block,
         offset,
         bytes.len(),
-    );
-    if !accepted(number) {
+    ) {
         return refused(number, controller);
     }
-    let seat = seat_for(table, block);
-    let taken = seat.slot;
-    let FreeSlot::At(slot) = taken else {
+    let Seat { found, slot } = seat_for(table, block);
+    let Some(slot) = slot else {
         return refused(Number::Full, controller);
     };
-    let found = seat.found;
     let next = move_for(phase, found);
     let from = spot_of(g, block, found);
+    let patch = Patch { offset, bytes };
     store_at(
-        memory, cache, table, controller, block, slot, from, offset, bytes, next, p,
+        memory, cache, table, controller, block, slot, from, patch, next, p,
     )
 }
 
-// The number of a store that isn't cut.
+// The number of a store that isn't cut, as document 01 has it.
 pub fn store_number(
     memory: &[u8],
     cache: &[u8],
@@ -72,7 +71,7 @@ pub fn store_number(
 {
     let g = controller.geometry;
     let phase = controller.phase;
-    let number = load_number(
+    if let Err(number) = check_load(
         memory.len(),
         cache.len(),
         table,
@@ -81,8 +80,7 @@ pub fn store_number(
         block,
         offset,
         bytes.len(),
-    );
-    if !accepted(number) {
+    ) {
         return number;
     }
     if full(table, block) {
@@ -96,10 +94,5 @@ pub fn full(table: &[u64], block: usize) -> bool
     requires { Formed table.now × (block < 4096) }
     ensures { result ≡ S.full (S.slot_for (W.lookup block table.now) (W.lowest_free table.now)) }
 {
-    let seat = seat_for(table, block);
-    let taken = seat.slot;
-    let FreeSlot::At(_) = taken else {
-        return true;
-    };
-    false
+    seat_for(table, block).slot.is_none()
 }

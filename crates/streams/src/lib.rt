@@ -1,9 +1,9 @@
-// Whole reads and writes on the standard streams: a read or a write that fails ends there, as one at the stream's end.
+// Whole reads on the standard input: a read that fails ends there, as one at the input's end.
 #![tactic(auto)]
 
 ghost use Rattle.std.specs.Prelude.{◌≤◌, length};
 
-use std::io::{Read, Stdin, Stdout, Write};
+use std::io::{Read, Stdin};
 
 // Reads until the bytes are full, the input ends or a read fails, and returns how many bytes it put at their start.
 pub fn read_full(input: Stdin, bytes: &mut [u8]) -> usize
@@ -11,6 +11,7 @@ pub fn read_full(input: Stdin, bytes: &mut [u8]) -> usize
 {
     let mut input = input;
     let mut done = 0;
+    // The library's `read_exact` doesn't tell how many bytes came before the end.
     while done < bytes.len() {
         let came = match input.read(&mut bytes[done..]) {
             Ok(count) => count,
@@ -22,19 +23,4 @@ pub fn read_full(input: Stdin, bytes: &mut [u8]) -> usize
         done += came;
     }
     done
-}
-
-// Whether all of the bytes were written.
-pub fn write_all(out: Stdout, bytes: &[u8]) -> bool {
-    let mut out = out;
-    out.write_all(bytes).is_ok()
-}
-
-pub fn print_decimal(out: Stdout, value: u64) -> bool {
-    print!(out; "{value}").is_ok()
-}
-
-// Two digits.
-pub fn print_hex(out: Stdout, byte: u8) -> bool {
-    print!(out; "{byte:02x}").is_ok()
 }

@@ -1,11 +1,10 @@
 -- Sweep as a call: the number that its checks give, what it knows once accepted, and how it ends.
 use mathlib.Core.Path.{◌≡◌, refl, sym, ap, ◌∙◌}
 use mathlib.Core.Logic.{◌≢◌}
-use mathlib.Core.Bool.{Bool, true, false, not}
+use mathlib.Core.Bool.{Bool, true, false}
 use mathlib.Core.List.{List, [], ◌∷◌, ◌++◌}
 use Prim.Native.Nat.{ℕ, ◌*◌, ◌≤◌, ◌<◌, min}
 use native.Mathlib.Omega.{arith}
-use lib.Dec.{eqb}
 use lib.ListN.{length, take, length-take}
 use Rattle.words.specs.Words.{Lays, lay}
 use Rattle.words.proofs.Laying.{take_most, laid_whole}
@@ -40,16 +39,16 @@ module _ (memory cache table : List ℕ) (controller : Controller) where
   unfolding S.sweep_number
   sweep_number_lem = refl
 
-  module _ (n : Number) (ok : Bool) (e : n ≡ first_of (common_checks board false)) (o : ok ≡ eqb (number_of n) 0) where
-    pub sweep_stops : not ok ≡ true → n ≡ S.sweep_number board
-    sweep_stops t = by_common board false (is_writing controller.phase) No.Busy n ok e o t ∙ sweep_number_lem
+  pub sweep_stops : {n : Number} → (n ≡ first_of (common_checks board false)) × (number_of n ≢ 0) → n ≡ S.sweep_number board
+  sweep_stops h = by_common board false (is_writing controller.phase) No.Busy h ∙ sweep_number_lem
 
-    module _ {held : Bool} (t : not ok ≡ false) (h : held ≡ is_writing controller.phase) where
-      pub sweep_busy : held ≡ true → No.Busy ≡ S.sweep_number board
-      sweep_busy q = by_last board false (is_writing controller.phase) No.Busy n ok e o t (sym h ∙ q) ∙ sweep_number_lem
+  -- once the checks 1 to 5 pass
+  module _ (z : number_of (first_of (common_checks board false)) ≡ 0) {held : Bool} (h : held ≡ is_writing controller.phase) where
+    pub sweep_busy : held ≡ true → No.Busy ≡ S.sweep_number board
+    sweep_busy q = by_last board false (is_writing controller.phase) No.Busy z (sym h ∙ q) ∙ sweep_number_lem
 
-      pub sweep_accepted : held ≡ false → No.Done ≡ S.sweep_number board
-      sweep_accepted q = by_none board false (is_writing controller.phase) No.Busy n ok e o t (sym h ∙ q) ∙ sweep_number_lem
+    pub sweep_accepted : held ≡ false → No.Done ≡ S.sweep_number board
+    sweep_accepted q = by_none board false (is_writing controller.phase) No.Busy z (sym h ∙ q) ∙ sweep_number_lem
 
   -- what an accepted sweep knows
   pub sweep_known : No.Done ≡ S.sweep_number board → Sweepable controller.geometry memory table

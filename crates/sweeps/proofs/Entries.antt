@@ -1,7 +1,7 @@
 -- The clean entries of a table, met slot by slot: their list, their copies, and the table with them hidden.
 use mathlib.Core.Path.{◌≡◌, refl, sym, ap, ◌∙◌, subst}
 use mathlib.Core.Logic.{◌≢◌}
-use mathlib.Core.Bool.{Bool, true, false}
+use mathlib.Core.Bool.{Bool, true, false, cond}
 use mathlib.Core.List.{List, [], ◌∷◌, ◌++◌, append_assoc, append-nil}
 use Prim.Native.Nat.{ℕ, zero, suc, ◌+◌, ◌*◌, ◌-◌, ◌/◌, ◌%◌, ◌≤◌, ◌<◌}
 use native.Mathlib.Omega.{arith}
@@ -10,6 +10,8 @@ use native.Mathlib.Numerals.{add-one}
 use lib.Dec.{ltb}
 use lib.ListN.{length, take, drop, get_or, set, length-append, length-take, take-append-drop}
 use lib.Seq.{take_all, take-suc, take-append-add, get_or-set_other}
+use Rattle.std.specs.List.{sum_by}
+use Rattle.std.proofs.lemmas.List.Sums.{sum_by-cons}
 use borrow.Author.Tests.{eqb-true, eqb-false, ne_eqb, ltb-true, ltb-false}
 use Rattle.words.specs.Words.{Store, Lays, lay, bytes_to, block_at}
 use Rattle.words.proofs.All.{All, done, also, all_append, all_take}
@@ -79,6 +81,30 @@ by_counts slot x = go x (clean_or_not x)
     go x (is_clean_entry block) = refl
     go x (is_not over) = ap length (over.no_entry slot []) ∙ sym over.uncounted
 
+-- counted word by word
+pub clean_summed : (slot : ℕ) (table : List ℕ) → sum_by (λ word. one_if_clean (says word)) table ≡ length (clean_from slot table)
+unfolding clean_from
+clean_summed slot [] = refl
+clean_summed slot (word ∷ table) =
+    let above = clean_from (suc slot) table in
+    rw (sum_by-cons, by_front slot (says word) above, length-append, by_counts slot (says word)) (ap (λ (k : ℕ). one_if_clean (says word) + k) (clean_summed (suc slot) table))
+
+one_of : (word : ℕ) → cond (is_clean word) 1 0 ≡ one_if_clean (says word)
+unfolding is_clean
+one_of word = go (is_clean word) refl
+  where
+    go : (b : Bool) → is_clean word ≡ b → cond (is_clean word) 1 0 ≡ one_if_clean (says word)
+    go true e = rw e (one_counted word (eqb-true (word % 256) 1 e))
+    go false e = rw e (none_counted word (eqb-false (word % 256) 1 e))
+
+-- counted by the test of a word
+pub clean_counted : (slot : ℕ) (table : List ℕ) → sum_by (λ word. cond (is_clean word) 1 0) table ≡ length (clean_from slot table)
+unfolding clean_from
+clean_counted slot [] = refl
+clean_counted slot (word ∷ table) =
+    let above = clean_from (suc slot) table in
+    rw (sum_by-cons, one_of word, by_front slot (says word) above, length-append, by_counts slot (says word)) (ap (λ (k : ℕ). one_if_clean (says word) + k) (clean_counted (suc slot) table))
+
 -- no more than there are slots
 pub few_entries : (slot : ℕ) (table : List ℕ) → length (clean_from slot table) ≤ length table
 unfolding clean_from clean_by
@@ -114,11 +140,6 @@ module _ (table : List ℕ) where
       ∙ ap (clean_from 0) (take-suc table slot 0 h)
       ∙ clean_parts 0 (take slot table) (get_or table slot 0 ∷ [])
       ∙ ap (λ (k : ℕ). met slot ++ clean_by k (says (get_or table slot 0)) []) e
-
-  pub met_counts : (slot : ℕ) {found here : ℕ} → slot < length table → found ≡ length (met slot) → here ≡ one_if_clean (says (get_or table slot 0))
-      → found + here ≡ length (met (slot + 1))
-  met_counts slot h e f =
-      rw (e, f, met_more slot h, length-append) (ap (λ (k : ℕ). length (met slot) + k) (sym (by_counts slot (says (get_or table slot 0)))))
 
   -- words that aren't clean add none
   met_skip : (start count : ℕ) → start + count ≤ length table → Skipped is_clean table start (start + count) → met (start + count) ≡ met start

@@ -1,4 +1,5 @@
 // The call that makes room: sweep (document 02, No. 7).
+// What is lent comes one by one, by & or &mut as the call needs it: one value of all of it would ask callers for more.
 #![tactic(auto)]
 
 ghost use Rattle.std.specs.Prelude.{◌≡◌};
@@ -9,9 +10,8 @@ ghost use Rattle.rules.specs.Calls as K;
 use crate::counts::count_sweep;
 use crate::slots::{lay_swept, sweep_slots};
 use checks::answers::{refused, reply, switched_off};
-use checks::numbers::{accepted, is_writing};
+use checks::numbers::is_writing;
 use rules::{Answer, Controller, Number};
-use words::least;
 
 pub mod counts;
 pub mod slots;
@@ -27,23 +27,19 @@ pub fn sweep(
 ) -> Answer
     ensures { K.call p (board_of memory.old cache.now table.old controller) (K.sweep limit) ≡ outcome_of result memory.new cache.now table.new }
 {
-    let counted = count_sweep(memory, cache, table, controller);
-    let number = counted.number;
-    if !accepted(number) {
-        return refused(number, controller);
-    }
-    let phase = controller.phase;
-    if is_writing(phase) {
+    let clean = match count_sweep(memory, cache, table, controller) {
+        Ok(clean) => clean,
+        Err(number) => return refused(number, controller),
+    };
+    if is_writing(controller.phase) {
         return refused(Number::Busy, controller);
     }
-    let g = controller.geometry;
-    let entries = least(limit, counted.entries);
+    let entries = limit.min(clean);
     let words = 8 * entries;
     if p < words {
-        lay_swept(memory, table, g, entries, p);
-        let off = switched_off(controller);
-        return reply(Number::Cut, p, off);
+        lay_swept(memory, table, controller.geometry, entries, p);
+        return reply(Number::Cut, p, switched_off(controller));
     }
-    sweep_slots(memory, table, g, entries);
+    sweep_slots(memory, table, controller.geometry, entries);
     reply(Number::Done, words, controller)
 }

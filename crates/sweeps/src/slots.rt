@@ -8,27 +8,25 @@ ghost use Rattle.sweeps.specs.Entries.{is_clean, Sweepable};
 
 use merges::copy_within;
 use rules::Geometry;
-use words::left_of;
 
+// By the number of its code: a State made of it would be a second test of a word in the walk.
 pub fn is_clean(word: u64) -> bool
     ensures { result ≡ is_clean word }
 {
     word % 256 == 1
 }
 
-// The lowest slot from a start on whose entry is clean, or the number of slots.
+// The lowest slot from a start on whose entry is clean, or the number of slots: no Option, since both loops go on only while a clean entry is left.
 pub fn next_clean(table: &[u64], start: usize) -> usize
     requires { start ≤ length table.now }
     ensures { Next is_clean table.now start result }
 {
-    let mut slot = start;
-    while slot < table.len() {
+    for slot in start..table.len() {
         if is_clean(table[slot]) {
             return slot;
         }
-        slot += 1;
     }
-    slot
+    table.len()
 }
 
 // An entry's block copied from CHECKPOINT of its slot to HOME, word by word, under an allowance.
@@ -41,18 +39,16 @@ pub fn copy_home(memory: &mut [u8], g: Geometry, slot: usize, word: u64, p: usiz
 }
 
 // The copies of the lowest clean entries under an allowance, for a sweep that is cut: its table stays.
+// The slot goes on behind each entry found: an iterator over the entries would hold the table while its words change.
 pub fn lay_swept(memory: &mut [u8], table: &[u64], g: Geometry, entries: usize, p: usize)
     requires { Sweepable g memory.old table.now × (entries ≤ length (clean_from 0 table.now)) }
     ensures { Lays p (home_copies g memory.old (take entries (clean_from 0 table.now))) memory.old memory.new (8 * entries) }
 {
     let mut slot = 0;
-    let mut done = 0;
-    while done < entries {
+    for done in 0..entries {
         slot = next_clean(table, slot);
-        let left = left_of(p, 8 * done);
-        copy_home(memory, g, slot, table[slot], left);
+        copy_home(memory, g, slot, table[slot], p.saturating_sub(8 * done));
         slot += 1;
-        done += 1;
     }
 }
 
@@ -62,13 +58,11 @@ pub fn sweep_slots(memory: &mut [u8], table: &mut [u64], g: Geometry, entries: u
     ensures { (memory.new ≡ lay (home_copies g memory.old (take entries (clean_from 0 table.old))) memory.old) × (table.new ≡ hidden (take entries (clean_from 0 table.old)) table.old) }
 {
     let mut slot = 0;
-    let mut swept = 0;
-    while swept < entries {
+    for _swept in 0..entries {
         slot = next_clean(table, slot);
         let word = table[slot];
         copy_home(memory, g, slot, word, Geometry::BLOCK_WORDS);
         table[slot] = word + 2;
         slot += 1;
-        swept += 1;
     }
 }

@@ -1,4 +1,5 @@
 // The board's calls on a table of bytes: its words are read into a lent part, the call works on them, and they are written back unless it is refused (document 02, No. 4).
+// What is lent comes one by one, by & or &mut as the call needs it: one value of all of it would ask callers for more.
 #![tactic(auto)]
 
 ghost use Rattle.std.specs.Prelude.{◌≡◌, cond, ℕ, ◌*◌, length};
@@ -9,16 +10,15 @@ ghost use Rattle.rules.specs.Calls as C;
 ghost use Rattle.loads.specs.Reading.{Loaded};
 ghost use Rattle.tabled.specs.Tabled as T;
 
-use checks::numbers::number_of;
 use codec::tables::{read_table, write_table};
 use rules::{Answer, Controller, Geometry, Number, Recovery};
 
 // Whether a call that was answered so changed anything: all but a refusal.
+#[tactic(auto, unfolding(crate::specs::Tabled::changes, rules::specs::Numbers::number_of))]
 pub fn changes(number: Number) -> bool
     ensures { result ≡ T.changes number }
 {
-    let returned = number_of(number);
-    (returned == 0) | (returned == 20)
+    matches!(number, Number::Done | Number::Cut)
 }
 
 // A refused call leaves the table's bytes as they were.
@@ -30,6 +30,8 @@ fn write_back(table: &mut [u8], words: &[u64], number: Number)
         write_table(words, table);
     }
 }
+
+// Each call reads the table, calls the board and writes back. A shared function would have to be lent a closure, which takes as many lines.
 
 pub fn load(
     memory: &[u8],
@@ -64,8 +66,7 @@ pub fn store(
 {
     read_table(table, words);
     let answer = board::store(memory, cache, words, controller, block, offset, bytes, p);
-    let number = answer.number;
-    write_back(table, words, number);
+    write_back(table, words, answer.number);
     answer
 }
 
@@ -83,8 +84,7 @@ pub fn begin(
 {
     read_table(table, words);
     let answer = board::begin(memory, cache, words, controller, registers, p);
-    let number = answer.number;
-    write_back(table, words, number);
+    write_back(table, words, answer.number);
     answer
 }
 
@@ -120,8 +120,7 @@ pub fn format(
 {
     read_table(table, words);
     let answer = board::format(memory, cache, words, controller, g, fill, p);
-    let number = answer.number;
-    write_back(table, words, number);
+    write_back(table, words, answer.number);
     answer
 }
 
@@ -139,7 +138,6 @@ pub fn recover(
     read_table(table, words);
     let recovery = board::recover(memory, cache, words, controller, g);
     let answer = recovery.answer;
-    let number = answer.number;
-    write_back(table, words, number);
+    write_back(table, words, answer.number);
     recovery
 }

@@ -1,7 +1,7 @@
 -- The lines of fields, put piece by piece.
 use mathlib.Core.Path.{◌≡◌, ap, ◌∙◌, subst}
 use mathlib.Core.List.{List, [], ◌∷◌, ◌++◌, append_assoc}
-use mathlib.Core.Option.{none}
+use Rattle.std.specs.Prelude.{None}
 use Prim.Native.Nat.{ℕ}
 use Rattle.lines.specs.Puts.{Puts}
 use Rattle.lines.specs.Lines.{decimal, hex_bytes, line}
@@ -30,7 +30,7 @@ module _ (field n w : ℕ) {slice slice' : List ℕ} {place : ℕ} (p : Puts (de
 
   -- after them `--` and the end
   pub dashes_end : {slice₁ : List ℕ} {r : ℕ} → Puts (32 ∷ (45 ∷ (45 ∷ (10 ∷ [])))) place slice' slice₁ r
-      → Puts (line (decimal field ∷ (decimal n ∷ (decimal w ∷ (register_text none ∷ []))))) 0 slice slice₁ r
+      → Puts (line (decimal field ∷ (decimal n ∷ (decimal w ∷ (register_text None ∷ []))))) 0 slice slice₁ r
   unfolding line register_text
   dashes_end {slice₁} {r} e =
       subst (λ (l : List ℕ). Puts l 0 slice slice₁ r) (three_then (decimal field) (decimal n) (decimal w) (32 ∷ (45 ∷ (45 ∷ (10 ∷ []))))) (puts_then p e)

@@ -1,205 +1,176 @@
-// The bench: what is lent of each array, the record, and the lines that set them.
+// The bench: the arrays, what is lent of them, the record, and what a line does with them.
 ghost use Rattle.std.specs.Prelude.{◌<◌};
 
-use crate::print;
-use crate::text::{argument, named, short_at, size_at};
+use crate::calls::Call;
+use crate::print::{Changes, Record, Table};
+use crate::readings::Reading;
+use crate::settings::Setting;
+use crate::text::Line;
 use rules::{Backup, Controller, Geometry, Phase};
-use starts::formats::clear_table;
-use std::io::Stdout;
+use std::io;
+use std::io::{Stdout, Write};
 use words::lay_number;
 
 // The lengths lent: bytes of the memory, bytes of CACHE, words of the table.
 #[derive(Clone, Copy)]
-pub struct Lent {
+pub struct Lengths {
     pub memory: usize,
     pub cache: usize,
     pub table: usize,
 }
 
-#[derive(Clone, Copy)]
-pub struct Bench {
-    pub lent: Lent,
+// As in the program `cost`, which has arrays of other sizes: the two share no crate.
+impl Lengths {
+    fn exact(g: Geometry) -> Lengths {
+        let slots = usize::from(g.slots);
+        Lengths {
+            memory: 8 * g.memory_words(),
+            cache: 64 * slots,
+            table: slots,
+        }
+    }
+}
+
+// What a call is given: the lent parts of the arrays, and the record.
+#[derive(Drop)]
+pub struct Lent<'a> {
+    pub memory: &'a mut [u8],
+    pub cache: &'a mut [u8],
+    pub table: &'a mut [u64],
     pub controller: Controller,
+}
+
+// A board of up to 85 words, with up to 5 slots.
+#[derive(Drop)]
+pub struct Bench {
+    memory: [u8; 680],
+    cache: [u8; 320],
+    table: [u64; 5],
+    lengths: Lengths,
+    controller: Controller,
 }
 
 // Bytes that count up from the first, each of them so many times.
 pub fn count_up(bytes: &mut [u8], times: usize, first: u8)
     requires { 0 < times }
 {
-    let start = first as usize;
-    let mut j = 0;
-    while j < bytes.len() {
-        bytes[j] = ((start + j / times % 256) % 256) as u8;
-        j += 1;
+    for (j, byte) in bytes.iter_mut().enumerate() {
+        *byte = first.wrapping_add((j / times % 256) as u8);
     }
 }
 
-pub fn sizes_in(line: &[u8]) -> Geometry {
-    Geometry {
-        blocks: short_at(line, 1),
-        slots: short_at(line, 2),
+impl Bench {
+    // Each byte and each table word 0, all lengths those of the sizes, Running, A finished.
+    pub fn new(g: Geometry) -> Bench {
+        Bench {
+            memory: [0; 680],
+            cache: [0; 320],
+            table: [0; 5],
+            lengths: Lengths::exact(g),
+            controller: Controller {
+                geometry: g,
+                registers: [0; 64],
+                finished: Backup::A,
+                phase: Phase::Running,
+            },
+        }
     }
-}
 
-fn exact(g: Geometry) -> Lent {
-    let slots = g.slots as usize;
-    Lent {
-        memory: 8 * g.memory_words(),
-        cache: 64 * slots,
-        table: slots,
+    // Each word tells its place: word w of the memory is the byte w eight times, word w of CACHE the byte 128 + w.
+    fn board(g: Geometry) -> Bench {
+        let mut bench = Bench::new(g);
+        count_up(&mut bench.memory, 8, 0);
+        count_up(&mut bench.cache, 8, 128);
+        bench
     }
-}
 
-// A board of these sizes, Running, A finished, the table and the registers 0.
-pub fn fresh(g: Geometry) -> Bench {
-    Bench {
-        lent: exact(g),
-        controller: Controller {
-            geometry: g,
-            registers: [0u8; 64],
-            finished: Backup::A,
-            phase: Phase::Running,
-        },
+    // What the lengths say, as far as the arrays reach.
+    fn lend(&mut self) -> Lent<'_> {
+        let lengths = self.lengths;
+        let controller = self.controller;
+        let Bench {
+            memory,
+            cache,
+            table,
+            ..
+        } = self;
+        Lent {
+            memory: &mut memory[..lengths.memory.min(680)],
+            cache: &mut cache[..lengths.cache.min(320)],
+            table: &mut table[..lengths.table.min(5)],
+            controller,
+        }
     }
-}
 
-// Each word tells its place: word w of the memory is the byte w eight times, word w of CACHE the byte 128 + w.
-fn set_board(memory: &mut [u8], cache: &mut [u8], table: &mut [u64], line: &[u8]) -> Bench {
-    count_up(memory, 8, 0);
-    count_up(cache, 8, 128);
-    clear_table(table);
-    fresh(sizes_in(line))
-}
+    fn put_table(&mut self, words: [u64; 3]) {
+        for (entry, word) in self.table.iter_mut().zip(words) {
+            *entry = word;
+        }
+    }
 
-fn put(table: &mut [u64], slot: usize, word: u64) {
-    if slot < table.len() {
-        table[slot] = word;
+    fn put_word(&mut self, place: usize, value: u64) {
+        if place < self.memory.len() / 8 {
+            lay_number(&mut self.memory, place, value, 1);
+        }
     }
-}
 
-fn put_table(table: &mut [u64], word0: u64, word1: u64, word2: u64) {
-    put(table, 0, word0);
-    put(table, 1, word1);
-    put(table, 2, word2);
-}
+    fn set(&mut self, setting: Setting) {
+        match setting {
+            Setting::Board(g) => *self = Bench::board(g),
+            Setting::Lend(lengths) => self.lengths = lengths,
+            Setting::Table(words) => self.put_table(words),
+            Setting::Word { place, value } => self.put_word(place, value),
+            Setting::Sizes(g) => self.controller.geometry = g,
+            Setting::Finished(backup) => self.controller.finished = backup,
+            Setting::Phase(phase) => self.controller.phase = phase,
+        }
+    }
 
-fn set_table(table: &mut [u64], line: &[u8]) {
-    put_table(
-        table,
-        argument(line, 1),
-        argument(line, 2),
-        argument(line, 3),
-    );
-}
-
-fn set_word(memory: &mut [u8], line: &[u8]) {
-    let place = size_at(line, 1);
-    if place < memory.len() / 8 {
-        lay_number(memory, place, argument(line, 2), 1);
-    }
-}
-
-fn lent_in(line: &[u8]) -> Lent {
-    Lent {
-        memory: size_at(line, 1),
-        cache: size_at(line, 2),
-        table: size_at(line, 3),
-    }
-}
-
-fn backup_in(line: &[u8]) -> Backup {
-    if argument(line, 1) == 2 {
-        return Backup::B;
-    }
-    Backup::A
-}
-
-fn with_phase(controller: Controller, phase: Phase) -> Controller {
-    let registers = controller.registers;
-    let finished = controller.finished;
-    let g = controller.geometry;
-    Controller {
-        geometry: g,
-        registers: registers,
-        finished: finished,
-        phase: phase,
-    }
-}
-
-fn with_sizes(controller: Controller, g: Geometry) -> Controller {
-    let registers = controller.registers;
-    let finished = controller.finished;
-    let phase = controller.phase;
-    Controller {
-        geometry: g,
-        registers: registers,
-        finished: finished,
-        phase: phase,
-    }
-}
-
-fn with_finished(controller: Controller, finished: Backup) -> Controller {
-    let registers = controller.registers;
-    let phase = controller.phase;
-    let g = controller.geometry;
-    Controller {
-        geometry: g,
-        registers: registers,
-        finished: finished,
-        phase: phase,
-    }
-}
-
-// The record that a line sets, from the one before.
-fn set_record(out: Stdout, controller: Controller, line: &[u8]) -> Controller {
-    if named(line, b"sizes") {
-        return with_sizes(controller, sizes_in(line));
-    }
-    if named(line, b"finished") {
-        return with_finished(controller, backup_in(line));
-    }
-    if named(line, b"running") {
-        return with_phase(controller, Phase::Running);
-    }
-    if named(line, b"writing") {
-        return with_phase(controller, Phase::Writing(short_at(line, 1)));
-    }
-    if named(line, b"off") {
-        return with_phase(controller, Phase::Off);
-    }
-    print::text(out, b"  unknown\n");
-    controller
-}
-
-pub fn set(
-    out: Stdout,
-    memory: &mut [u8],
-    cache: &mut [u8],
-    table: &mut [u64],
-    bench: Bench,
-    line: &[u8],
-) -> Bench {
-    let controller = bench.controller;
-    let lent = bench.lent;
-    if named(line, b"board") {
-        return set_board(memory, cache, table, line);
-    }
-    if named(line, b"lend") {
-        return Bench {
-            lent: lent_in(line),
-            controller: controller,
+    // The number, the words stored, the record, the table, the words of the memory that the call changed, and those of CACHE.
+    fn call(&mut self, out: Stdout, call: Call) -> io::Result<()> {
+        let old_memory = self.memory;
+        let old_cache = self.cache;
+        let answer = call.answer(out, self.lend())?;
+        self.controller = answer.controller;
+        let Lent {
+            memory,
+            cache,
+            table,
+            controller,
+        } = self.lend();
+        print!(out; " {} {} |", u64::from(answer.number), answer.words)?;
+        print!(out; "{} |{} |", Record(controller), Table(table))?;
+        let in_memory = Changes {
+            old: &old_memory,
+            new: memory,
         };
+        let in_cache = Changes {
+            old: &old_cache,
+            new: cache,
+        };
+        println!(out; "{in_memory} |{in_cache}")
     }
-    if named(line, b"table") {
-        set_table(table, line);
-        return bench;
-    }
-    if named(line, b"word") {
-        set_word(memory, line);
-        return bench;
-    }
-    Bench {
-        lent: lent,
-        controller: set_record(out, controller, line),
+
+    // The line itself, and what it gives, indented.
+    pub fn turn(&mut self, out: Stdout, line: Line<'_>) -> io::Result<()> {
+        io::writer(&out).write_all(line.0)?;
+        println!(out)?;
+        if line.is_note() {
+            return Ok(());
+        }
+        if let Some(call) = Call::parse(line) {
+            print!(out; " ")?;
+            return self.call(out, call);
+        }
+        if let Some(reading) = Reading::parse(line) {
+            print!(out; " ")?;
+            reading.print(out, self.lend())?;
+            return println!(out);
+        }
+        let Some(setting) = Setting::parse(line) else {
+            return println!(out; "  unknown");
+        };
+        self.set(setting);
+        Ok(())
     }
 }

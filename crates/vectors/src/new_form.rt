@@ -1,52 +1,47 @@
-// The calls of the new stored form, made by a line of the case file on what is lent (document 02, No. 6).
-use crate::bench::sizes_in;
-use crate::print;
-use crate::text::{byte_at, named, size_at};
-use board::{Answer, Controller};
+// The calls of the new stored form: what a line of the case file asks for, made on what is lent (document 02, No. 6).
+use crate::bench::Lent;
+use crate::calls::recovered;
+use crate::text::Line;
+use board::{Answer, Geometry};
+use std::io;
 use std::io::Stdout;
 
-pub fn is_call(line: &[u8]) -> bool {
-    named(line, b"newformat")
-        || named(line, b"newrecover")
-        || named(line, b"up")
-        || named(line, b"back")
+#[derive(Clone, Copy)]
+pub enum Call {
+    Format { g: Geometry, fill: u8, p: usize },
+    Recover(Geometry),
+    Up { g: Geometry, p: usize },
+    Back { g: Geometry, p: usize },
 }
 
-fn recover(
-    out: Stdout,
-    memory: &[u8],
-    cache: &[u8],
-    table: &mut [u64],
-    controller: Controller,
-    line: &[u8],
-) -> Answer {
-    let g = sizes_in(line);
-    let recovery = header::recover(memory, cache, table, controller, g);
-    let registers = recovery.registers;
-    print::existence(out, registers);
-    recovery.answer
-}
+impl Call {
+    pub fn parse(line: Line<'_>) -> Option<Call> {
+        let g = line.sizes();
+        Some(match line.name() {
+            b"newformat" => Call::Format {
+                g,
+                fill: line.byte(3),
+                p: line.size(4),
+            },
+            b"newrecover" => Call::Recover(g),
+            b"up" => Call::Up { g, p: line.size(3) },
+            b"back" => Call::Back { g, p: line.size(3) },
+            _ => return None,
+        })
+    }
 
-pub fn answer_to(
-    out: Stdout,
-    memory: &mut [u8],
-    cache: &[u8],
-    table: &mut [u64],
-    controller: Controller,
-    line: &[u8],
-) -> Answer {
-    let g = sizes_in(line);
-    if named(line, b"newformat") {
-        let fill = byte_at(line, 3);
-        let p = size_at(line, 4);
-        return header::format(memory, cache, table, controller, g, fill, p);
+    pub fn answer(self, out: Stdout, lent: Lent<'_>) -> io::Result<Answer> {
+        let Lent {
+            memory,
+            cache,
+            table,
+            controller: c,
+        } = lent;
+        Ok(match self {
+            Call::Format { g, fill, p } => header::format(memory, cache, table, c, g, fill, p),
+            Call::Recover(g) => recovered(out, header::recover(memory, cache, table, c, g))?,
+            Call::Up { g, p } => header::move_up(memory, cache, table, c, g, p),
+            Call::Back { g, p } => header::move_back(memory, cache, table, c, g, p),
+        })
     }
-    if named(line, b"newrecover") {
-        return recover(out, memory, cache, table, controller, line);
-    }
-    let p = size_at(line, 3);
-    if named(line, b"up") {
-        return header::move_up(memory, cache, table, controller, g, p);
-    }
-    header::move_back(memory, cache, table, controller, g, p)
 }

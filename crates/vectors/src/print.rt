@@ -1,149 +1,155 @@
-// What the program prints: the outcome of a call, bytes in hex, and which words a call changed.
-ghost use Rattle.std.specs.Prelude.{◌+◌, ◌*◌, ◌≤◌, length};
+// What the program prints: bytes in hex, names, the record, and which words a call changed.
+use rules::{Backup, Controller, Phase, Registers};
+use std::fmt;
 
-use rules::{Backup, Controller, Geometry, Phase, Registers};
-use std::io::Stdout;
-use words::{least, number_at};
+#[derive(Clone, Copy)]
+pub struct Hex<'a>(pub &'a [u8]);
 
-pub fn text(out: Stdout, bytes: &[u8]) {
-    streams::write_all(out, bytes);
-}
-
-pub fn decimal(out: Stdout, value: u64) {
-    streams::print_decimal(out, value);
-}
-
-pub fn spaced(out: Stdout, value: u64) {
-    text(out, b" ");
-    decimal(out, value);
-}
-
-fn hex_byte(out: Stdout, byte: u8) {
-    streams::print_hex(out, byte);
-}
-
-pub fn hex(out: Stdout, bytes: &[u8]) {
-    let mut j = 0;
-    while j < bytes.len() {
-        hex_byte(out, bytes[j]);
-        j += 1;
-    }
-}
-
-fn hex_word(out: Stdout, part: &[u8], place: usize)
-    requires { 8 * place + 8 ≤ length part.now }
-{
-    let start = 8 * place;
-    let end = start + 8;
-    text(out, b" ");
-    hex(out, &part[start..end]);
-}
-
-// Words of a part, as many as there are.
-pub fn words_from(out: Stdout, part: &[u8], start: usize, count: usize) {
-    let all = part.len() / 8;
-    let first = least(start, all);
-    let end = first + least(count, all - first);
-    let mut place = first;
-    while place < end {
-        hex_word(out, part, place);
-        place += 1;
-    }
-}
-
-// A peeked part: its length, its first word and its last.
-pub fn ends(out: Stdout, part: &[u8]) {
-    let count = part.len() / 8;
-    spaced(out, part.len() as u64);
-    words_from(out, part, 0, 1);
-    if 0 < count {
-        words_from(out, part, count - 1, 1);
-    }
-}
-
-fn phase_name(out: Stdout, phase: Phase) {
-    match phase {
-        Phase::Running => text(out, b" Running"),
-        Phase::Writing(count) => {
-            text(out, b" Writing");
-            spaced(out, count as u64);
+impl fmt::Display for Hex<'_> {
+    fn fmt<W: fmt::Write>(&self, f: &mut fmt::Formatter<W>) -> fmt::Result {
+        for byte in self.0 {
+            write!(f, "{byte:02x}")?;
         }
-        Phase::Off => text(out, b" Off"),
+        Ok(())
     }
 }
 
-fn backup_name(out: Stdout, backup: Backup) {
-    match backup {
-        Backup::A => text(out, b" A"),
-        Backup::B => text(out, b" B"),
+// Words of a part from one place on, as many as there are.
+#[derive(Clone, Copy)]
+pub struct Part<'a> {
+    bytes: &'a [u8],
+    start: usize,
+    count: usize,
+}
+
+impl<'a> Part<'a> {
+    // The count is of words, and may be more than there are.
+    pub fn new(bytes: &'a [u8], start: usize, count: usize) -> Part<'a> {
+        Part {
+            bytes,
+            start,
+            count,
+        }
     }
 }
 
-fn sizes(out: Stdout, g: Geometry) {
-    spaced(out, g.blocks as u64);
-    spaced(out, g.slots as u64);
+impl fmt::Display for Part<'_> {
+    fn fmt<W: fmt::Write>(&self, f: &mut fmt::Formatter<W>) -> fmt::Result {
+        let words = self.bytes.chunks_exact(8);
+        for word in words.skip(self.start).take(self.count) {
+            write!(f, " {}", Hex(word))?;
+        }
+        Ok(())
+    }
 }
 
-// The sizes, the phase, the finished backup and the first register byte.
-pub fn record(out: Stdout, controller: Controller) {
-    let g = controller.geometry;
-    let phase = controller.phase;
-    let finished = controller.finished;
-    let registers = controller.registers;
-    sizes(out, g);
-    phase_name(out, phase);
-    backup_name(out, finished);
-    text(out, b" ");
-    hex_byte(out, registers[0]);
+#[derive(Clone, Copy)]
+pub struct Table<'a>(pub &'a [u64]);
+
+impl fmt::Display for Table<'_> {
+    fn fmt<W: fmt::Write>(&self, f: &mut fmt::Formatter<W>) -> fmt::Result {
+        for word in self.0 {
+            write!(f, " {word}")?;
+        }
+        Ok(())
+    }
+}
+
+// A value of the board, by its name.
+#[derive(Clone, Copy)]
+pub struct Name<T>(pub T);
+
+impl fmt::Display for Name<Phase> {
+    fn fmt<W: fmt::Write>(&self, f: &mut fmt::Formatter<W>) -> fmt::Result {
+        match self.0 {
+            Phase::Running => f.write_str("Running"),
+            Phase::Writing(count) => write!(f, "Writing {count}"),
+            Phase::Off => f.write_str("Off"),
+        }
+    }
+}
+
+impl fmt::Display for Name<Backup> {
+    fn fmt<W: fmt::Write>(&self, f: &mut fmt::Formatter<W>) -> fmt::Result {
+        f.write_str(match self.0 {
+            Backup::A => "A",
+            Backup::B => "B",
+        })
+    }
 }
 
 // Whether a recovery has registers.
-pub fn existence(out: Stdout, registers: Registers) {
-    match registers {
-        Registers::Saved => text(out, b" saved,"),
-        Registers::Absent => text(out, b" absent,"),
+impl fmt::Display for Name<Registers> {
+    fn fmt<W: fmt::Write>(&self, f: &mut fmt::Formatter<W>) -> fmt::Result {
+        f.write_str(match self.0 {
+            Registers::Saved => "saved",
+            Registers::Absent => "absent",
+        })
     }
 }
 
-pub fn table_words(out: Stdout, table: &[u64]) {
-    let mut slot = 0;
-    while slot < table.len() {
-        spaced(out, table[slot]);
-        slot += 1;
+// The sizes, the phase, the finished backup and the first register byte.
+#[derive(Clone, Copy)]
+pub struct Record(pub Controller);
+
+impl fmt::Display for Record {
+    fn fmt<W: fmt::Write>(&self, f: &mut fmt::Formatter<W>) -> fmt::Result {
+        let Controller {
+            geometry,
+            registers,
+            finished,
+            phase,
+        } = self.0;
+        write!(f, " {} {}", geometry.blocks, geometry.slots)?;
+        write!(
+            f,
+            " {} {} {:02x}",
+            Name(phase),
+            Name(finished),
+            registers[0]
+        )
     }
 }
 
-// The last word of a run of changed words, where it has two or more.
-fn end_run(out: Stdout, run: u64, after: usize) {
-    if 1 < run && 0 < after {
-        text(out, b"-");
-        decimal(out, (after - 1) as u64);
+// Changed words that follow one another, by the places of the first and the last.
+#[derive(Clone, Copy)]
+struct Run {
+    first: usize,
+    last: usize,
+}
+
+impl fmt::Display for Run {
+    fn fmt<W: fmt::Write>(&self, f: &mut fmt::Formatter<W>) -> fmt::Result {
+        let Run { first, last } = *self;
+        if first == last {
+            return write!(f, " {first}");
+        }
+        write!(f, " {first}-{last}")
     }
 }
 
-// Takes one more word into the run of changed words or ends it. Two words or more count as 2.
-fn run_on(out: Stdout, old: &[u8], new: &[u8], place: usize, run: u64) -> u64
-    requires { (8 * place + 8 ≤ length old.now) × (8 * place + 8 ≤ length new.now) }
-{
-    if number_at(old, place) == number_at(new, place) {
-        end_run(out, run, place);
-        return 0;
-    }
-    if run == 0 {
-        spaced(out, place as u64);
-        return 1;
-    }
-    2
+// The places of the words that differ, in runs, as far as both parts reach.
+#[derive(Clone, Copy)]
+pub struct Changes<'a> {
+    pub old: &'a [u8],
+    pub new: &'a [u8],
 }
 
-// The places of the words that differ in what is lent, in runs.
-pub fn changes(out: Stdout, old: &[u8], new: &[u8], lent: usize) {
-    let count = least(lent, least(old.len(), new.len())) / 8;
-    let mut run = 0;
-    let mut place = 0;
-    while place < count {
-        run = run_on(out, old, new, place, run);
-        place += 1;
+impl fmt::Display for Changes<'_> {
+    fn fmt<W: fmt::Write>(&self, f: &mut fmt::Formatter<W>) -> fmt::Result {
+        let words = self.old.chunks_exact(8).zip(self.new.chunks_exact(8));
+        let mut run: Option<Run> = None;
+        for (place, (old, new)) in words.enumerate() {
+            if old != new {
+                let first = run.map_or(place, |run| run.first);
+                run = Some(Run { first, last: place });
+            } else if let Some(ended) = run.take() {
+                write!(f, "{ended}")?;
+            }
+        }
+        match run {
+            Some(ended) => write!(f, "{ended}"),
+            None => Ok(()),
+        }
     }
-    end_run(out, run, place);
 }

@@ -1,115 +1,63 @@
-// The lines of the case file, a line's name and its decimal numbers.
-ghost use Rattle.std.specs.Prelude.{◌≤◌, ◌<◌, length};
+// The lines of the case file: a line's name and its decimal numbers, each after one blank.
+use rules::Geometry;
 
-// The end of the line that begins at a place: its line feed, or the end of the text.
-pub fn line_end(text: &[u8], start: usize) -> usize
-    requires { start ≤ length text.now }
-    ensures { (start ≤ result) × (result ≤ length text.now) }
-{
-    let mut end = start;
-    while end < text.len() {
-        if text[end] == b'\n' {
-            return end;
-        }
-        end += 1;
-    }
-    end
-}
-
-// An empty line or a comment.
-pub fn is_note(line: &[u8]) -> bool {
-    if line.len() == 0 {
-        return true;
-    }
-    line[0] == b'#'
-}
-
-// Whether the line's first word is this one.
-pub fn named(line: &[u8], name: &[u8]) -> bool {
-    if line.len() < name.len() {
-        return false;
-    }
-    let mut j = 0;
-    while j < name.len() {
-        if line[j] != name[j] {
-            return false;
-        }
-        j += 1;
-    }
-    line.len() == j || line[j] == b' '
-}
-
-// What is known of a line's numbers after some of its bytes.
 #[derive(Clone, Copy)]
-struct Scan {
-    // the blanks passed, up to 100
-    blanks: u64,
-    value: u64,
+pub struct Line<'a>(pub &'a [u8]);
+
+// A number with one more digit. There is none where it may have no room, and where the byte is no digit.
+fn longer(value: u64, byte: u8) -> Option<u64> {
+    let digit = char::from(byte).to_digit(10)?;
+    if u64::MAX / 10 <= value {
+        return None;
+    }
+    Some(10 * value + u64::from(digit))
 }
 
-// A number with one more digit; the largest of 64 bits where it has no room, and where the byte is no digit.
-fn longer(value: u64, byte: u8) -> u64 {
-    if 1844674407370955160 < value {
-        return u64::MAX;
+impl<'a> Line<'a> {
+    // An empty line or a comment.
+    pub fn is_note(self) -> bool {
+        self.0.is_empty() || self.0.starts_with(b"#")
     }
-    if byte < b'0' {
-        return u64::MAX;
-    }
-    if b'9' < byte {
-        return u64::MAX;
-    }
-    value * 10 + ((byte - b'0') as u64)
-}
 
-fn scanned(scan: Scan, byte: u8, which: u64) -> Scan {
-    let blanks = scan.blanks;
-    let value = scan.value;
-    if byte == b' ' {
-        if blanks < 100 {
-            return Scan {
-                blanks: blanks + 1,
-                value: value,
-            };
-        }
-        return scan;
+    fn field(self, which: usize) -> Option<&'a [u8]> {
+        self.0.split(|byte| *byte == b' ').nth(which)
     }
-    if blanks == which {
-        return Scan {
-            blanks: blanks,
-            value: longer(value, byte),
+
+    // The line's first word.
+    pub fn name(self) -> &'a [u8] {
+        self.field(0).unwrap_or(b"")
+    }
+
+    // 0 where there is none, and the largest of 64 bits where a digit has no room or a byte is no digit.
+    pub fn number(self, which: usize) -> u64 {
+        let Some(digits) = self.field(which) else {
+            return 0;
         };
+        digits
+            .iter()
+            .try_fold(0, |value, byte| longer(value, *byte))
+            .unwrap_or(u64::MAX)
     }
-    scan
-}
 
-// The number after so many single blanks, and 0 where there is none.
-pub fn argument(line: &[u8], which: u64) -> u64 {
-    let mut scan = Scan {
-        blanks: 0,
-        value: 0,
-    };
-    let mut j = 0;
-    while j < line.len() {
-        scan = scanned(scan, line[j], which);
-        j += 1;
+    // A number that is a place, a length or an allowance.
+    pub fn size(self, which: usize) -> usize {
+        self.number(which) as usize
     }
-    scan.value
-}
 
-// A number that is a place, a length or an allowance.
-pub fn size_at(line: &[u8], which: u64) -> usize {
-    argument(line, which) as usize
-}
-
-pub fn byte_at(line: &[u8], which: u64) -> u8 {
-    (argument(line, which) % 256) as u8
-}
-
-// A two-byte number; a larger one is taken as the largest.
-pub fn short_at(line: &[u8], which: u64) -> u16 {
-    let value = argument(line, which);
-    if 65535 < value {
-        return 65535;
+    pub fn byte(self, which: usize) -> u8 {
+        (self.number(which) % 256) as u8
     }
-    value as u16
+
+    // A two-byte number; a larger one is taken as the largest.
+    pub fn short(self, which: usize) -> u16 {
+        u16::try_from(self.number(which)).unwrap_or(u16::MAX)
+    }
+
+    // The sizes of a board, which are a line's first two numbers.
+    pub fn sizes(self) -> Geometry {
+        Geometry {
+            blocks: self.short(1),
+            slots: self.short(2),
+        }
+    }
 }

@@ -1,67 +1,35 @@
-// Wire records, written and read by a line of the case file on what is lent.
-use crate::print;
-use crate::text::{argument, short_at, size_at};
-use board::{Answer, Controller};
+// Wire records: a line's, and what is printed of one that is read on what is lent.
+use crate::bench::Lent;
+use crate::text::Line;
+use std::io;
 use std::io::Stdout;
-use wires::{Class, Found, Reading, Wire};
+use wires::{Found, Wire};
 
-fn wire_in(line: &[u8]) -> Wire {
+pub fn wire_in(line: Line<'_>) -> Wire {
     Wire {
-        current: short_at(line, 2),
-        latch: argument(line, 3) == 1,
-        test: argument(line, 4) == 1,
-    }
-}
-
-pub fn write(
-    memory: &mut [u8],
-    cache: &mut [u8],
-    table: &mut [u64],
-    controller: Controller,
-    line: &[u8],
-) -> Answer {
-    let block = size_at(line, 1);
-    let p = size_at(line, 5);
-    wires::write(memory, cache, table, controller, block, wire_in(line), p)
-}
-
-fn flag(out: Stdout, value: bool) {
-    if value {
-        return print::text(out, b" 1");
-    }
-    print::text(out, b" 0");
-}
-
-fn class_name(out: Stdout, class: Class) {
-    match class {
-        Class::Break => print::text(out, b" break"),
-        Class::Weak => print::text(out, b" weak"),
-        Class::Healthy => print::text(out, b" healthy"),
-        Class::Short => print::text(out, b" short"),
-        Class::Test => print::text(out, b" test"),
+        current: line.short(2),
+        latch: line.number(3) == 1,
+        test: line.number(4) == 1,
     }
 }
 
 // The number, then the current, the latch, the test and the class where there is a record.
-pub fn read(
-    out: Stdout,
-    memory: &[u8],
-    cache: &[u8],
-    table: &[u64],
-    controller: Controller,
-    line: &[u8],
-) {
-    let block = size_at(line, 1);
+pub fn print(out: Stdout, lent: Lent<'_>, block: usize) -> io::Result<()> {
+    let Lent {
+        memory,
+        cache,
+        table,
+        controller,
+    } = lent;
     let reading = wires::read(memory, cache, table, controller, block);
-    print::spaced(out, wires::number_of(reading));
-    let Reading::Block(found) = reading else {
-        return;
+    print!(out; " {}", wires::number_of(reading))?;
+    let Ok(Found { wire, class }) = reading else {
+        return Ok(());
     };
-    let Found::Says { wire, class } = found else {
-        return;
-    };
-    print::spaced(out, wire.current as u64);
-    flag(out, wire.latch);
-    flag(out, wire.test);
-    class_name(out, class);
+    print!(out;
+        " {} {} {} {class}",
+        wire.current,
+        u8::from(wire.latch),
+        u8::from(wire.test)
+    )
 }

@@ -2,7 +2,7 @@
 use mathlib.Core.Path.{◌≡◌, refl, sym, ap, ◌∙◌, subst}
 use mathlib.Core.Bool.{Bool, true, false, cond, not}
 use mathlib.Core.List.{List, [], ◌∷◌}
-use mathlib.Core.Option.{Option, none, some}
+use Rattle.std.specs.Prelude.{Option, None, Some}
 use Prim.Native.Nat.{ℕ, zero, suc}
 use native.Mathlib.Nat.{suc-ne-zero}
 use lib.Dec.{eqb}
@@ -32,8 +32,8 @@ use Rattle.wires.proofs.Demands.{good_reads, recovers_wires, good_whole}
 
 -- the checkpoint that is on its way has these blocks, or it is finished and none is on its way
 data Coming (blocks : ℕ → List ℕ) (plain : Plain) : Type 0 where
-  is_on_its_way : {picture : Picture} → plain.on_its_way ≡ some picture → picture.blocks ≡ blocks → Coming blocks plain
-  finished : plain.on_its_way ≡ none → plain.kept.blocks ≡ blocks → Coming blocks plain
+  is_on_its_way : {picture : Picture} → plain.on_its_way ≡ Some picture → picture.blocks ≡ blocks → Coming blocks plain
+  finished : plain.on_its_way ≡ None → plain.kept.blocks ≡ blocks → Coming blocks plain
 
 -- with the mark it is finished
 marked : (blocks : ℕ → List ℕ) (plain : Plain) → Coming blocks plain → (finish plain).kept.blocks ≡ blocks
@@ -41,7 +41,7 @@ unfolding finish kept_or
 marked blocks plain (is_on_its_way {picture} e b) = ap (λ (z : Option Picture). (kept_or plain.kept z).blocks) e ∙ b
 marked blocks plain (finished e b) = ap (λ (z : Option Picture). (kept_or plain.kept z).blocks) e ∙ b
 
-none_after : (plain : Plain) → (finish plain).on_its_way ≡ none
+none_after : (plain : Plain) → (finish plain).on_its_way ≡ None
 unfolding finish
 none_after plain = refl
 

@@ -3,7 +3,7 @@ use mathlib.Core.Path.{◌≡◌, refl, sym, ap, ◌∙◌, subst}
 use mathlib.Core.Logic.{◌≢◌}
 use mathlib.Core.Bool.{Bool, true, false, cond}
 use mathlib.Core.List.{List, [], ◌∷◌}
-use mathlib.Core.Option.{Option, none, some}
+use Rattle.std.specs.Prelude.{Option, None, Some}
 use Prim.Native.Nat.{ℕ, zero, suc, ◌<◌}
 use native.Mathlib.Omega.{arith}
 use native.Mathlib.Nat.{suc-ne-zero}
@@ -26,13 +26,12 @@ use Rattle.rules.proofs.LiveShown.{inv_shows, load_accepted, live_whole, kept_wh
 use Rattle.rules.proofs.Demand3.{Good, next, call_good, formatted_good, demand_3}
 use Rattle.rules.proofs.Demand2.{run_inv}
 use Rattle.records.specs.declared.Wire.{Wire}
-use Rattle.records.specs.declared.Found.TheVariants.{Says}
-use Rattle.wires.specs.declared.Reading.{Reading}
-use Rattle.wires.specs.declared.Reading.TheVariants.{Block}
+use Rattle.std.specs.Prelude.{Ok}
+use Rattle.records.specs.Reading.{says_of}
 use Rattle.records.specs.Records.{written}
 use Rattle.records.specs.Classes.{first_sheet, class_of}
 use Rattle.wires.specs.Reading as R
-use Rattle.wires.specs.Reading.{Gives, read_as, ReadsWire}
+use Rattle.wires.specs.Reading.{Reading, Gives, a_record, ReadsWire}
 use Rattle.wires.specs.Promises.{LiveReads, Spares, loads, peeks, stores_another, begins, steps, sweeps, refuses, Quiet, no_more, and_then, WrittenReads, WiresIn, RecoveredReads}
 use Rattle.records.proofs.Encoding.{written_whole}
 use Rattle.records.specs.Promises.{RoundTrip}
@@ -56,14 +55,14 @@ good_reads g run plain v w r awake h reads =
     loaded_reads run.board w (plain.live w) r e ((inv_shows run.board plain v.inv).loads 0 w 0 64 e) (live_whole run.board plain v.inv awake w lt) reads
 
 -- a run that a promise stands behind looks like the plain machine
-run_good : (board : Board) (events : List Event) (plain : Plain) → (runs events (record { board = board; promise = none })).promise ≡ some plain
-    → Good (sizes (runs events (record { board = board; promise = none })).board) (runs events (record { board = board; promise = none })) plain
+run_good : (board : Board) (events : List Event) (plain : Plain) → (runs events (record { board = board; promise = None })).promise ≡ Some plain
+    → Good (sizes (runs events (record { board = board; promise = None })).board) (runs events (record { board = board; promise = None })) plain
 run_good board events plain e = record { stands = e; inv = run_inv board events plain e; same = refl }
 
 pub live_reads : LiveReads
 unfolding LiveReads
 live_reads board events plain w r e awake h reads =
-    let run = runs events (record { board = board; promise = none }) in
+    let run = runs events (record { board = board; promise = None }) in
     good_reads (sizes run.board) run plain (run_good board events plain e) w r awake h reads
 
 -- ---- calls that leave a wire alone
@@ -197,13 +196,13 @@ written_holds run plain p w wire v e =
 pub written_reads : WrittenReads
 unfolding WrittenReads RoundTrip
 written_reads board events plain p w wire later r stands two_bytes e quiet awake reads =
-    let before = runs events (record { board = board; promise = none }) in
+    let before = runs events (record { board = board; promise = None }) in
     let after = doing p (store w 0 (written wire)) before in
     let g = sizes before.board in
     let v = run_good board events plain stands in
     let s = quiet_holds g w (written wire) after later quiet (written_holds before plain p w wire v e) in
     let said = good_reads g (runs later after) s.plain s.good w r awake (store_passed p before.board w 0 (written wire) e).1 reads in
-    gives_one (written wire) r (Block (Says wire (class_of first_sheet wire))) (subst (λ (z : List ℕ). Gives z r) s.live said) (read_as (round_trip wire two_bytes))
+    gives_one (written wire) r (Ok (says_of wire (class_of first_sheet wire))) (subst (λ (z : List ℕ). Gives z r) s.live said) (a_record (round_trip wire two_bytes))
 
 -- ---- after a recovery
 
@@ -219,8 +218,8 @@ pub good_whole : (g : Geometry) (run : Run) (plain : Plain) → Good g run plain
 good_whole g run plain v w h = kept_whole run.board plain v.inv w (subst (λ (z : Geometry). w < z.blocks) (sym v.same) h)
 
 -- there is one promise
-same_promise : {promise : Option Plain} {one two : Plain} → promise ≡ some one → promise ≡ some two → one ≡ two
-same_promise {promise} {one} {two} a b = let e : some one ≡ some two = sym a ∙ b in cc
+same_promise : {promise : Option Plain} {one two : Plain} → promise ≡ Some one → promise ≡ Some two → one ≡ two
+same_promise {promise} {one} {two} a b = let e : Some one ≡ Some two = sym a ∙ b in cc
 
 pub recovered_reads : RecoveredReads
 unfolding RecoveredReads Demand3

@@ -8,12 +8,12 @@ use Rattle.rules.specs.Power.{Outcome, outcome_of}
 use Rattle.rules.specs.Calls.{load, store, call}
 use Rattle.rules.proofs.Answers.{SameOutcome, one_outcome}
 use Rattle.records.specs.declared.Wire.{Wire}
-use Rattle.wires.specs.declared.Reading.{Reading}
-use Rattle.wires.specs.declared.Reading.TheVariants.{Block}
+use Rattle.std.specs.Prelude.{Some, None, Ok}
 use Rattle.records.specs.Records.{written}
-use Rattle.wires.specs.Reading.{Gives, read_as, Answers, refused, accepted, ReadsWire}
+use Rattle.wires.specs.Reading.{Reading, Gives, a_record, no_record, Answers, refused, accepted, ReadsWire}
 use Rattle.records.specs.Promises.{OneReading}
 use Rattle.records.proofs.Blocks.{one_reading}
+use Rattle.std.proofs.lemmas.Option.{none-some, same_Some}
 
 pub write_one : (p : ℕ) (board : Board) (w : ℕ) (wire : Wire) {answer answer' : Answer} {memory memory' cache cache' table table' : List ℕ}
     → call p board (store w 0 (written wire)) ≡ outcome_of answer memory cache table
@@ -23,7 +23,10 @@ write_one p board w wire = one_outcome
 
 pub gives_one : (block : List ℕ) (r s : Reading) → Gives block r → Gives block s → r ≡ s
 unfolding OneReading
-gives_one block r s (read_as {found = one} a) (read_as {found = two} b) = ap Block (one_reading block one two a b)
+gives_one block r s (a_record {found = one} a) (a_record {found = two} b) = ap Ok (same_Some _ _ (one_reading block (Some one) (Some two) a b))
+gives_one block r s (a_record {found = one} a) (no_record b) = absurd (none-some _ (one_reading block None (Some one) b a))
+gives_one block r s (no_record a) (a_record {found = two} b) = absurd (none-some _ (one_reading block None (Some two) a b))
+gives_one block r s (no_record a) (no_record b) = refl
 
 answer_one : (outcome : Outcome) (r s : Reading) → Answers outcome r → Answers outcome s → r ≡ s
 answer_one outcome r s (refused ne) (refused ne') = refl

@@ -1,6 +1,5 @@
 -- What is promised of wires (document 02, No. 1 and No. 7). The proofs are in proofs/Telling.antt, Demands.antt, AsBegun.antt and Room.antt.
-use Rattle.std.specs.Prelude.{◌≡◌, ◌≢◌, ◌⊎◌, true, false, List, [], ◌∷◌, ℕ, ◌≤◌, ◌<◌}
-use Rattle.std.proofs.Math.Option.{none, some}
+use Rattle.std.specs.Prelude.{◌≡◌, ◌≢◌, ◌⊎◌, true, false, List, [], ◌∷◌, ℕ, ◌≤◌, ◌<◌, Ok, None, Some}
 use Rattle.words.specs.Words.{lay}
 use Rattle.rules.specs.declared.Geometry.{Geometry}
 use Rattle.rules.specs.Board.{Board, Volatile, sizes, phase_of}
@@ -11,12 +10,10 @@ use Rattle.rules.specs.PlainMachine.{Picture, Plain, has_mark, note}
 use Rattle.rules.specs.Runs.{Event, does, Run, doing, runs, Lengths, NoFormat, FromFormat, run_from, NoneFinished}
 use Rattle.rules.specs.SweepPromises.{RoomMade}
 use Rattle.records.specs.declared.Wire.{Wire}
-use Rattle.records.specs.declared.Found.TheVariants.{Says}
-use Rattle.wires.specs.declared.Reading.{Reading}
-use Rattle.wires.specs.declared.Reading.TheVariants.{Block}
 use Rattle.records.specs.Records.{written}
 use Rattle.records.specs.Classes.{first_sheet, class_of}
-use Rattle.wires.specs.Reading.{Gives, ReadsWire, told}
+use Rattle.records.specs.Reading.{says_of}
+use Rattle.wires.specs.Reading.{Reading, Gives, ReadsWire, told}
 
 -- ---- a read
 
@@ -27,7 +24,7 @@ ReadTells =
     → ReadsWire board w r
     → (number_of (call 0 board (load w 0 64)).number ≢ 0 → (told r).number ≡ number_of (call 0 board (load w 0 64)).number)
     × (number_of (call 0 board (load w 0 64)).number ≡ 0 → ((told r).number ≡ 0) ⊎ ((told r).number ≡ 30))
-    × ((told r).number ≢ 0 → (told r).values ≡ none)
+    × ((told r).number ≢ 0 → (told r).values ≡ None)
 
 -- ---- from demand 2: reading while the board runs
 
@@ -35,8 +32,8 @@ ReadTells =
 unfoldable pub LiveReads : Type 0
 LiveReads =
     (board : Board) (events : List Event) (plain : Plain) (w : ℕ) (r : Reading)
-    → let run = runs events (record { board = board; promise = none }) in
-    run.promise ≡ some plain
+    → let run = runs events (record { board = board; promise = None }) in
+    run.promise ≡ Some plain
     → is_off (phase_of run.board) ≡ false
     → w < (sizes run.board).blocks
     → ReadsWire run.board w r
@@ -65,15 +62,15 @@ pub data Quiet (w : ℕ) : Run → List Event → Type 0 where
 unfoldable pub WrittenReads : Type 0
 WrittenReads =
     (board : Board) (events : List Event) (plain : Plain) (p w : ℕ) (wire : Wire) (later : List Event) (r : Reading)
-    → let before = runs events (record { board = board; promise = none }) in
+    → let before = runs events (record { board = board; promise = None }) in
     let after = doing p (store w 0 (written wire)) before in
-    before.promise ≡ some plain
+    before.promise ≡ Some plain
     → wire.current < 65536
     → number_of (call p before.board (store w 0 (written wire))).number ≡ 0
     → Quiet w after later
     → is_off (phase_of (runs later after).board) ≡ false
     → ReadsWire (runs later after).board w r
-    → r ≡ Block (Says wire (class_of first_sheet wire))
+    → r ≡ Ok (says_of wire (class_of first_sheet wire))
 
 -- ---- from demand 3: reading after a recovery
 
@@ -91,7 +88,7 @@ RecoveredReads =
     (g : Geometry) (from : FromFormat g)
     → let run = run_from from in
     (plain : Plain)
-    → run.promise ≡ some plain
+    → run.promise ≡ Some plain
     → (c : Call)
     → NoFormat c
     → (q : ℕ)

@@ -1,6 +1,5 @@
 -- What a read of a wire answers (document 02, No. 1).
-use Rattle.std.specs.Prelude.{◌≡◌, ◌≢◌, List, ℕ}
-use Rattle.std.proofs.Math.Option.{Option, none, some}
+use Rattle.std.specs.Prelude.{◌≡◌, ◌≢◌, List, ℕ, Some, None, Result, Ok, Err, Option}
 use Rattle.rules.specs.Board.{Board}
 use Rattle.rules.specs.Numbers.{number_of}
 use Rattle.rules.specs.Power.{Outcome}
@@ -8,18 +7,22 @@ use Rattle.rules.specs.Calls.{load, call}
 use Rattle.records.specs.declared.Wire.{Wire}
 use Rattle.records.specs.declared.Class.{Class}
 use Rattle.records.specs.declared.Found.{Found}
-use Rattle.records.specs.declared.Found.TheVariants.{Says, NoRecord}
 use Rattle.records.specs.Reading.{Reads}
-use Rattle.wires.specs.declared.Reading.{Reading}
-use Rattle.wires.specs.declared.Reading.TheVariants.{Block, Refused}
+use Rattle.wires.specs.declared.Refusal.{Refusal}
+use Rattle.wires.specs.declared.Refusal.TheVariants as No
+
+-- what a read answers: what a record says, or why there is none
+abbrev pub Reading : Type 0
+Reading = Result Found Refusal
 
 -- the reading of a block that the board gave
 pub data Gives (block : List ℕ) : Reading → Type 0 where
-  read_as : {found : Found} → Reads block found → Gives block (Block found)
+  a_record : {found : Found} → Reads block (Some found) → Gives block (Ok found)
+  no_record : Reads block None → Gives block (Err No.NoRecord)
 
 -- the board's own refusals first
 pub data Answers (outcome : Outcome) : Reading → Type 0 where
-  refused : number_of outcome.number ≢ 0 → Answers outcome (Refused outcome.number)
+  refused : number_of outcome.number ≢ 0 → Answers outcome (Err (No.Board outcome.number))
   accepted : {r : Reading} → number_of outcome.number ≡ 0 → Gives outcome.gives r → Answers outcome r
 
 -- a read of a wire is a load of its whole block
@@ -33,11 +36,12 @@ pub record Told : Type 0 where
   pub values : Option (Wire × Class)
 
 -- 30 NO RECORD
-unfoldable pub told_found : Found → Told
-told_found (Says wire class) = record { number = 0; values = some (wire, class) }
-told_found NoRecord = record { number = 30; values = none }
+unfoldable pub refusal_number : Refusal → ℕ
+unfolding number_of
+refusal_number (No.Board n) = number_of n
+refusal_number No.NoRecord = 30
 
 unfoldable pub told : Reading → Told
-unfolding number_of told_found
-told (Block found) = told_found found
-told (Refused n) = record { number = number_of n; values = none }
+unfolding refusal_number
+told (Ok found) = record { number = 0; values = Some (found.wire, found.class) }
+told (Err refusal) = record { number = refusal_number refusal; values = None }

@@ -1,15 +1,18 @@
 -- Words that all hold one byte.
 use mathlib.Core.Path.{◌≡◌, refl, sym, ap, ◌∙◌, subst}
-use mathlib.Core.List.{List, [], ◌∷◌, append-nil}
-use Prim.Native.Nat.{ℕ, zero, suc, ◌+◌, ◌*◌, ◌-◌, ◌≤◌}
+use mathlib.Core.List.{List, [], ◌∷◌, ◌++◌, append-nil}
+use Prim.Native.Nat.{ℕ, zero, suc, ◌+◌, ◌*◌, ◌-◌, ◌≤◌, min}
 use native.Mathlib.Omega.{arith}
 use native.Mathlib.Nat.{zero-add, not-suc-le-zero}
-use lib.ListN.{replicate, length-replicate, take, drop}
-use lib.Seq.{drop-drop, take-take}
-use Rattle.words.specs.Words.{word, words, fill_to, number, numbers}
+use lib.ListN.{length, replicate, length-replicate, length-drop, take, drop}
+use lib.Seq.{drop-drop, take-take, length-take-le}
+use borrow.Rule.Slice.PartMut.{put_mid}
+use Rattle.std.proofs.lemmas.Slice.{put_mid-paste}
+use Rattle.words.specs.Words.{word, words, fill_to, number, numbers, Lays}
 use Rattle.words.proofs.All.{All}
 use Rattle.words.proofs.Rising.{Held}
 use Rattle.words.proofs.Makers.{words_part, held_bytes}
+use Rattle.words.proofs.Laying.{lays_fill}
 
 pub held_fill : (memory : List ℕ) (n place fill : ℕ) → All (Held memory) (fill_to place n fill) → words memory place n ≡ replicate (8 * n) fill
 unfolding fill_to
@@ -23,6 +26,15 @@ take-replicate (suc n) (suc k) fill h = ap (λ (xs : List ℕ). fill ∷ xs) (ta
 drop-replicate : (n k fill : ℕ) → drop n (replicate (n + k) fill) ≡ replicate k fill
 drop-replicate zero k fill = rw (zero-add k)
 drop-replicate (suc n) k fill = let e : suc n + k ≡ suc (n + k) = omega arith in rw e (drop-replicate n k fill)
+
+-- as many words filled with one byte as the allowance leaves lay the run
+pub lays_filled : (p n place k fill : ℕ) (memory part : List ℕ) → 8 * (place + n) ≤ length memory → k ≡ 8 * min p n
+    → part ≡ replicate (length (take k (drop (8 * place) memory))) fill → Lays p (fill_to place n fill) memory (put_mid (8 * place) k memory part) n
+lays_filled p n place k fill memory part h e f =
+    let whole : length (take k (drop (8 * place) memory)) ≡ k = length-take-le k (drop (8 * place) memory) (simp length-drop (omega arith)) in
+    lays_fill p n place k fill memory h e
+    (put_mid-paste (8 * place) k memory part (replicate k fill) k (f ∙ ap (λ (z : ℕ). replicate z fill) whole) refl (sym (length-replicate k fill))
+    ∙ ap (λ (z : List ℕ). take (8 * place) memory ++ z ++ drop (8 * place + k) memory) (take-replicate k k fill (omega arith) ∙ sym (take-replicate k (8 * n) fill (omega arith))))
 
 -- some words of a memory that holds one byte
 pub part_filled : (memory : List ℕ) (place n fill : ℕ) → words memory place n ≡ replicate (8 * n) fill

@@ -5,8 +5,8 @@ use Prim.Native.Nat.{ℕ, zero, suc, ◌+◌, ◌*◌, ◌-◌, ◌≤◌, ◌<�
 use native.Mathlib.Omega.{arith}
 use native.Mathlib.Nat.{zero-add, zero-sub, sub-zero, suc-sub-suc, min-zero, zero-min, suc-min-suc}
 use native.Mathlib.Numerals.{add-one, towards_suc}
-use lib.ListN.{length, get_or, set, take, drop, replicate, length-append, length-drop, length-replicate, get_or-replicate}
-use lib.Seq.{take_all, take-add, take_at, take-nil, drop-drop, drop-append-add, drop-cons, drop-length, length-take-le, get_or-drop, paste, paste-zero, paste-suc}
+use lib.ListN.{length, get_or, set, take, drop, replicate, length-append, length-drop, length-replicate}
+use lib.Seq.{take_all, take-add, take_at, take-nil, drop-drop, drop-append-add, drop-cons, drop-length, length-take-le, paste, paste-zero, paste-suc}
 use Rattle.words.specs.Words.{put, Store, lay, bytes_to, fill_to, numbers_to, number_bytes, little_endian, Lays}
 use Rattle.words.proofs.Puts.{length-put, length_front}
 use Rattle.words.proofs.Lists.{lay-append}
@@ -126,15 +126,6 @@ lays_number p place x bytes e l = rw e at l
 pub paste_turn : (to : List ℕ) (start : ℕ) (from : List ℕ) (j : ℕ) → start + j < length to → j < length from
     → set (paste to start from j) (start + j) (get_or from j 0) ≡ paste to start from (j + 1)
 paste_turn to start from j h k = rw add-one (paste-suc to start from j 0 h k)
-
-pub fill_turn : (to : List ℕ) (start k fill j : ℕ) → start + j < length to → j < k
-    → set (paste to start (replicate k fill) j) (start + j) fill ≡ paste to start (replicate k fill) (j + 1)
-fill_turn to start k fill j h l = rw (get_or-replicate k j fill 0 l) at (paste_turn to start (replicate k fill) j h (simp length-replicate l))
-
-pub copy_turn : (to from : List ℕ) (start j : ℕ) → j < length to → start + j < length from
-    → set (paste to 0 (drop start from) j) j (get_or from (start + j) 0) ≡ paste to 0 (drop start from) (j + 1)
-copy_turn to from start j h k =
-    rw (← get_or-drop start from j 0) (simp zero-add (simp zero-add at (paste_turn to 0 (drop start from) j (omega arith) (simp length-drop (omega arith)))))
 
 pub copy_whole : (to from : List ℕ) → paste to 0 from (length to) ≡ take (length to) from
 copy_whole to from = rw (zero-add, drop-length) (append-nil (take (length to) from))

@@ -6,5 +6,6 @@ pub mod Makers
 pub mod Blocks
 pub mod Parts
 pub mod Laying
+pub mod Bytes
 pub mod Fills
 pub mod Same

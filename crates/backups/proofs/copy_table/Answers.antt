@@ -8,10 +8,10 @@ pub loop-slot-preserved : goal.loop-slot-preserved
 loop-slot-preserved c =
     let a = c.args in
     let l = c.loop-slot in
-    (omega arith, simp length-set l.invariant.1, rw (l.invariant.2, c.number_at-word.ensures) (table_turn a.table.now a.part.now l.slot (omega arith)))
+    (simp length-set l.invariant.0, rw (l.invariant.1, c.number_at.ensures) (table_turn a.table.now a.part.now l.slot (omega arith)))
 
 pub returns : goal.returns
 returns c =
     let a = c.args in
     let l = c.loop-slot in
-    l.invariant.2 ∙ table_copied a.table.now a.part.now l.slot (omega arith)
+    l.invariant.1 ∙ table_copied a.table.now a.part.now l.slot (omega arith)

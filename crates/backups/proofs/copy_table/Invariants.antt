@@ -6,7 +6,4 @@ use Rattle.words.specs.Words.{numbers}
 use Rattle.backups.proofs.copy_table.Given as goal
 
 abbrev pub invariant-loop-slot : goal.invariant-loop-slot
-invariant-loop-slot l = (l.slot ≤ length l.initial.table) × (length l.table ≡ length l.initial.table) × (l.table ≡ paste l.initial.table 0 (numbers l.part 8 (length l.initial.table)) l.slot)
-
-abbrev pub decreases-loop-slot : goal.decreases-loop-slot
-decreases-loop-slot l = length l.initial.table - l.slot
+invariant-loop-slot l = (length l.table ≡ length l.initial.table) × (l.table ≡ paste l.initial.table 0 (numbers l.part 8 (length l.initial.table)) l.slot)

@@ -9,18 +9,15 @@ use Rattle.backups.proofs.take_word.Goals as goal
 pub returns-then-word-eq0 : goal.returns-then-word-eq0
 returns-then-word-eq0 c = λ (after : List ℕ) m. took_free _ _ after _ (sym c.clean_word.ensures ∙ not-false _ (not_from_true _ c.if-not-clean_word.false)) c.if-word-eq0.true m
 
-pub seen-requires : goal.seen-requires
-seen-requires c =
-    let p = c.requires in
-    (named_low _ _ (sym c.clean_word.ensures ∙ not-false _ (not_from_true _ c.if-not-clean_word.false)) c.if-word-eq0.false p.0, p.1)
+pub has-requires : goal.has-requires
+has-requires c = named_low _ _ (sym c.clean_word.ensures ∙ not-false _ (not_from_true _ c.if-not-clean_word.false)) c.if-word-eq0.false c.requires
 
-pub returns-then-seen : goal.returns-then-seen
-returns-then-seen c = λ (after : List ℕ) m. took_twice _ _ after _ (sym c.clean_word.ensures ∙ not-false _ (not_from_true _ c.if-not-clean_word.false)) c.if-word-eq0.false c.requires.0 m (sym c.seen.ensures ∙ c.if-seen.true)
+pub returns-then-has : goal.returns-then-has
+returns-then-has c = λ (after : List ℕ) m. took_twice _ _ after _ (sym c.clean_word.ensures ∙ not-false _ (not_from_true _ c.if-not-clean_word.false)) c.if-word-eq0.false c.requires m (sym c.has.ensures ∙ c.if-has.true)
 
-pub put_in-requires : goal.put_in-requires
-put_in-requires c =
-    let p = c.requires in
-    (named_low _ _ (sym c.clean_word.ensures ∙ not-false _ (not_from_true _ c.if-not-clean_word.false)) c.if-word-eq0.false p.0, p.1, sym c.seen.ensures ∙ c.if-seen.false)
+pub put-requires : goal.put-requires
+put-requires c =
+    (named_low _ _ (sym c.clean_word.ensures ∙ not-false _ (not_from_true _ c.if-not-clean_word.false)) c.if-word-eq0.false c.requires, sym c.has.ensures ∙ c.if-has.false)
 
 pub returns : goal.returns
-returns c = λ (after : List ℕ) m. took_new _ _ after _ (sym c.clean_word.ensures ∙ not-false _ (not_from_true _ c.if-not-clean_word.false)) c.if-word-eq0.false c.requires.0 m _ (sym c.seen.ensures ∙ c.if-seen.false) c.put_in.ensures
+returns c = λ (after : List ℕ) m. took_new _ _ after _ (sym c.clean_word.ensures ∙ not-false _ (not_from_true _ c.if-not-clean_word.false)) c.if-word-eq0.false c.requires m _ (sym c.has.ensures ∙ c.if-has.false) c.put.ensures

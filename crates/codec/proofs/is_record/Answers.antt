@@ -11,5 +11,5 @@ pub returns : goal.returns
 unfolding tests_hold
 returns c =
     let bytes = c.args.bytes.now in
-    (rw (c.has_fields.ensures, c.is_backup.ensures, c.is_phase.ensures, c.number_in.ensures.0))
-    ∙ tests_are bytes c.number_in.ensures.1 (omega arith)
+    (rw (c.has_fields.ensures, c.is_backup.ensures, c.is_phase.ensures, c.phase_fields_in.ensures.0, c.phase_fields_in.ensures.1))
+    ∙ tests_are bytes c.phase_fields_in.ensures.2 (omega arith)

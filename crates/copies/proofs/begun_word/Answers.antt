@@ -1,5 +1,4 @@
-use mathlib.Core.Path.{refl}
-use native.Mathlib.Omega.{arith}
+use Rattle.std.proofs.Common.{◌%◌, ◌≢◌, refl, rules, arith}
 use Rattle.rules.specs.declared.State.TheVariants.{Clean, Dirty, PreDirty}
 use Rattle.rules.specs.Checkpoints.{begun}
 use Rattle.copies.proofs.Words.{made_clean, made_free, not_begun}
@@ -19,5 +18,8 @@ returns-in-5 c = made_clean begun c.args.word _ PreDirty c.in-5.is refl (omega a
 
 pub returns-in_default : goal.returns-in_default
 returns-in_default c =
-    let n = c.in_default.in_default-own.rest in
-    made_free begun c.args.word (not_begun _ n.0.0.1 n.0.1 n.1)
+    let word = c.args.word in
+    let one : word % 256 ≢ 1 = search rules in
+    let two : word % 256 ≢ 2 = search rules in
+    let five : word % 256 ≢ 5 = search rules in
+    made_free begun word (not_begun (word % 256) one two five)

@@ -1,7 +1,4 @@
-use mathlib.Core.Path.{◌∙◌}
-use native.Mathlib.Omega.{arith}
-use lib.ListN.{get_or}
-use borrow.Author.Rules.{rules}
+use Rattle.std.proofs.Common.{get_or, arith}
 use Rattle.words.proofs.Laying.{lays_nothing}
 use Rattle.rules.specs.declared.Phase.TheVariants.{Running}
 use Rattle.rules.specs.TableWords.{says}
@@ -13,7 +10,7 @@ use Rattle.copies.proofs.lay_copies.Goals as goal
 
 pub loop-slot-init : goal.loop-slot-init
 unfolding copies
-loop-slot-init c = (omega arith, search rules, omega arith, lays_nothing _ _)
+loop-slot-init c = (omega arith, lays_nothing _ _)
 
 pub copy_slot-done-requires : goal.copy_slot-done-requires
 copy_slot-done-requires c =
@@ -35,8 +32,6 @@ loop-slot-preserved c =
     let a = c.args in
     let l = c.loop-slot in
     let few = few_words a.cache.now l.slot (copied_to a.g l.slot (says (get_or a.table.now l.slot 0))) in (
-      omega arith,
-      c.copy_slot-done.auto.memory ∙ l.invariant.1,
       omega (arith, c.copy_slot-done.ensures.words),
-      lays_more a.g a.cache.now a.table.now l.slot a.p _ c.loop-slot-test.true l.invariant.3 c.left_of-left.ensures c.copy_slot-done.ensures,
+      lays_more a.g a.cache.now a.table.now l.slot a.p _ c.loop-slot-test.true l.invariant.1 c.saturating_sub.ensures c.copy_slot-done.ensures,
     )

@@ -1,12 +1,8 @@
-use mathlib.Core.Path.{◌≡◌}
-use Prim.Native.Nat.{◌*◌, ◌-◌, ◌≤◌}
-use lib.ListN.{length, take}
+use Prim.Native.Nat.{◌*◌, ◌≤◌}
+use lib.ListN.{take}
 use Rattle.words.specs.Words.{Lays}
 use Rattle.rules.specs.Checkpoints.{copies}
 use Rattle.copies.proofs.lay_copies.Given as goal
 
 abbrev pub invariant-loop-slot : goal.invariant-loop-slot
-invariant-loop-slot l = (l.slot ≤ length l.table) × (length l.memory ≡ length l.initial.memory) × (l.done ≤ 8 * l.slot) × Lays l.p (copies l.g l.cache 0 (take l.slot l.table)) l.initial.memory l.memory l.done
-
-abbrev pub decreases-loop-slot : goal.decreases-loop-slot
-decreases-loop-slot l = length l.table - l.slot
+invariant-loop-slot l = (l.done ≤ 8 * l.slot) × Lays l.p (copies l.g l.cache 0 (take l.slot l.table)) l.initial.memory l.memory l.done

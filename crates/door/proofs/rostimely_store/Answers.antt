@@ -1,29 +1,27 @@
 use Rattle.door.proofs.Through as T
 use Rattle.door.specs.Doors as D
-use Rattle.codec.specs.Supposed.{supposed}
+use Rattle.codec.specs.Supposed.{supposed, is_record}
 use Rattle.rules.specs.Calls as C
+use mathlib.Core.Bool.{not}
 use lib.ListN.{length}
-use mathlib.Core.Path.{◌∙◌}
+use mathlib.Core.Path.{refl, sym, ◌∙◌}
 use Rattle.door.proofs.rostimely_store.Goals as goal
 
-pub returns-then-early-ne0 : goal.returns-then-early-ne0
+pub returns-in-Err : goal.returns-in-Err
 unfolding D.early D.no_record D.sizes_for
-returns-then-early-ne0 c =
+returns-in-Err c =
     let a = c.args in
-    T.refused_early a.p (D.lent_of a.memory.now a.cache.now a.table.now a.record_bytes.now) (C.store a.block a.offset a.bytes.now) c.kept_number-early.ensures c.if-early-ne0.true ∙ rw c.refusal.ensures
-
-pub record_in-controller-requires : goal.record_in-controller-requires
-record_in-controller-requires c = let a = c.args in T.kept_record a.record_bytes.now (length a.memory.now) (length a.cache.now) (length a.table.now) c.kept_number-early.ensures c.if-early-ne0.false
+    T.refused_early a.p (D.lent_of a.memory.now a.cache.now a.table.now a.record_bytes.now) (C.store a.block a.offset a.bytes.now) (sym c.in-Err.ensures) (T.early_not_0 c.in-Err.early) ∙ rw c.from.ensures
 
 pub store-answer-requires : goal.store-answer-requires
-store-answer-requires c = let a = c.args in T.kept_whole a.record_bytes.now (length a.memory.now) (length a.cache.now) (length a.table.now) c.kept_number-early.ensures c.if-early-ne0.false
+store-answer-requires c = let a = c.args in T.kept_whole (not (is_record a.record_bytes.now)) (supposed a.record_bytes.now).geometry (length a.memory.now) (length a.cache.now) (length a.table.now) c.in-Ok.ensures.0
 
 pub leave-requires : goal.leave-requires
-leave-requires c = let a = c.args in T.kept_record a.record_bytes.now (length a.memory.now) (length a.cache.now) (length a.table.now) c.kept_number-early.ensures c.if-early-ne0.false
+leave-requires c = T.kept_ninety c.args.record_bytes.now _ c.in-Ok.ensures.0
 
-pub returns : goal.returns
+pub returns-in-Ok : goal.returns-in-Ok
 unfolding D.early D.no_record D.sizes_for
-returns c =
+returns-in-Ok c =
     let a = c.args in
-    T.goes_on a.p (D.lent_of a.memory.now a.cache.now a.table.now a.record_bytes.now) (C.store a.block a.offset a.bytes.now) c.kept_number-early.ensures c.if-early-ne0.false
-    ∙ T.left_by_lem a.p (D.lent_of a.memory.now a.cache.now a.table.now a.record_bytes.now) (supposed a.record_bytes.now) (C.store a.block a.offset a.bytes.now) (rw c.record_in-controller.ensures at c.store-answer.ensures) c.leave.ensures.0 c.leave.ensures.1
+    T.goes_on a.p (D.lent_of a.memory.now a.cache.now a.table.now a.record_bytes.now) (C.store a.block a.offset a.bytes.now) refl c.in-Ok.ensures.0
+    ∙ T.left_by_lem a.p (D.lent_of a.memory.now a.cache.now a.table.now a.record_bytes.now) (supposed a.record_bytes.now) (C.store a.block a.offset a.bytes.now) (rw c.in-Ok.ensures.1 at c.store-answer.ensures) c.leave.ensures.0 c.leave.ensures.1

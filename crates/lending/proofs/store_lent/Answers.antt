@@ -1,4 +1,3 @@
-use Rattle.lending.proofs.Sizes.{from_first}
 use mathlib.Core.Path.{refl}
 use Rattle.rules.specs.Calls.{store}
 use Rattle.lending.proofs.Lent.{lent_done}
@@ -7,4 +6,4 @@ use Rattle.lending.proofs.store_lent.Goals as goal
 pub returns : goal.returns
 returns c =
     let a = c.args in
-    lent_done a.p a.memory.now a.cache.now a.table.now a.controller a.controller.geometry (from_first c.lent_memory-held.ensures.0) (from_first c.lent_cache-cached.ensures.0) (from_first c.lent_table-slots.ensures.0) (store a.block a.offset a.bytes.now) c.store.ensures refl refl refl
+    lent_done a.p a.memory.now a.cache.now a.table.now a.controller a.controller.geometry c.lent_memory.ensures.0 c.lent_cache.ensures.0 c.lent_table.ensures.0 (store a.block a.offset a.bytes.now) c.store.ensures refl refl refl

@@ -1,39 +1,26 @@
-use Prim.Native.Nat.{◌+◌, ◌/◌}
-use mathlib.Core.Path.{refl, ap}
+use Prim.Native.Nat.{ℕ, suc, ◌+◌, ◌-◌}
+use mathlib.Core.Path.{◌≡◌, ap, subst}
 use native.Mathlib.Omega.{arith}
-use lib.ListN.{length-set}
-use borrow.Author.Rules.{rules}
-use Rattle.lines.proofs.Digits.{some_digit, length_more, room_64, put_next, put_last}
+use Rattle.lines.proofs.Digits.{ToPut, room_64, put_first, put_next, put_whole}
 use Rattle.lines.proofs.put_decimal.Goals as goal
 
 pub overflow_add-end : goal.overflow_add-end
 overflow_add-end c = omega (arith, c.digit_count.ensures, room_64 c.args.value (omega arith))
 
-pub overflow_sub-place : goal.overflow_sub-place
-overflow_sub-place c = omega (arith, c.digit_count.ensures, some_digit c.args.value)
-
-pub loop-rest-init : goal.loop-rest-init
-loop-rest-init c = (search rules, omega arith, record { last = omega (arith, c.digit_count.ensures, some_digit c.args.value); stands = refl })
+pub loop-place-init : goal.loop-place-init
+loop-place-init c =
+    let a = c.args in
+    (omega arith, put_first a.value a.start _ a.into.now (omega (arith, c.digit_count.ensures)))
 
 pub bounds-into-place : goal.bounds-into-place
-bounds-into-place c =
-    let l = c.loop-rest in
-    omega (arith, l.invariant.2.last, room_64 l.rest (omega (arith, l.invariant.1)))
+bounds-into-place c = omega (arith, c.digit_count.ensures, room_64 c.args.value (omega arith))
 
-pub overflow_sub-place-in-loop-rest : goal.overflow_sub-place-in-loop-rest
-overflow_sub-place-in-loop-rest c =
-    let l = c.loop-rest in
-    omega (arith, l.invariant.2.last, length_more l.rest (omega arith), some_digit (l.rest / 10))
-
-pub loop-rest-preserved : goal.loop-rest-preserved
-loop-rest-preserved c =
-    let l = c.loop-rest in
-    (simp length-set l.invariant.0, omega arith, put_next c.digit.result c.digit.ensures (omega arith) l.invariant.2)
-
-pub bounds-into-place-2 : goal.bounds-into-place-2
-bounds-into-place-2 c =
-    let l = c.loop-rest in
-    omega (arith, l.invariant.2.last, room_64 l.rest (omega arith))
+pub loop-place-preserved : goal.loop-place-preserved
+loop-place-preserved c =
+    let a = c.args in
+    let l = c.loop-place in
+    let left : l.place - a.start ≡ suc (l.place - 1 - a.start) = omega arith in
+    (omega arith, put_next (l.place - 1) c.digit.result (omega arith) c.digit.ensures (subst (λ (n : ℕ). ToPut a.value a.start a.into.now l.into n l.rest) left l.invariant.1))
 
 pub returns : goal.returns
-returns c = put_last c.digit-2.result c.digit-2.ensures (omega arith) c.loop-rest.invariant.2 (ap (λ k. c.args.start + k) c.digit_count.ensures)
+returns c = put_whole (omega arith) (ap (λ k. c.args.start + k) c.digit_count.ensures) c.loop-place.invariant.1

@@ -8,7 +8,7 @@ use Rattle.merges.proofs.lay_whole.Goals as goal
 
 pub loop-k-init : goal.loop-k-init
 unfolding lay
-loop-k-init c = (omega arith, refl, refl)
+loop-k-init c = (refl, refl)
 
 pub loop-k-preserved : goal.loop-k-preserved
 unfolding word
@@ -16,8 +16,8 @@ loop-k-preserved c =
     let a = c.args in
     let q = c.requires in
     let l = c.loop-k in
-    let e = built_more a.part.now a.bytes.now (8 * a.to) 8 (omega arith) (omega arith) l.k (omega arith) l.invariant.2 (c.put_word.ensures ∙ ap (put l.part (8 * a.to + l.k)) c.eight_at-kept.ensures) in
-    (omega arith, ap length e ∙ built_length a.part.now a.bytes.now (8 * a.to) 8 (omega arith) (omega arith) (l.k + 1) (omega arith), e)
+    let e = built_more a.part.now a.bytes.now (8 * a.to) 8 (omega arith) (omega arith) l.k (omega arith) l.invariant.1 (c.put_word.ensures ∙ ap (put l.part (8 * a.to + l.k)) c.eight_at-kept.ensures) in
+    (ap length e ∙ built_length a.part.now a.bytes.now (8 * a.to) 8 (omega arith) (omega arith) (l.k + 1) (omega arith), e)
 
 pub returns : goal.returns
 returns c =
@@ -25,4 +25,4 @@ returns c =
     let q = c.requires in
     let l = c.loop-k in
     let e : l.k ≡ 8 = omega arith in
-    built_all a.part.now a.bytes.now (8 * a.to) 8 (omega arith) (omega arith) 8 e l.invariant.2
+    built_all a.part.now a.bytes.now (8 * a.to) 8 (omega arith) (omega arith) 8 e l.invariant.1

@@ -5,7 +5,4 @@ use Rattle.words.specs.Words.{lay, bytes_to}
 use Rattle.merges.proofs.lay_whole.Given as goal
 
 abbrev pub invariant-loop-k : goal.invariant-loop-k
-invariant-loop-k l = (l.k ≤ 8) × (length l.part ≡ length l.initial.part) × (l.part ≡ lay (take l.k (bytes_to (8 * l.to) 8 l.bytes)) l.initial.part)
-
-abbrev pub decreases-loop-k : goal.decreases-loop-k
-decreases-loop-k l = 8 - l.k
+invariant-loop-k l = (length l.part ≡ length l.initial.part) × (l.part ≡ lay (take l.k (bytes_to (8 * l.to) 8 l.bytes)) l.initial.part)

@@ -9,28 +9,25 @@ use Rattle.merges.proofs.merge_across.Goals as goal
 pub loop-k-init : goal.loop-k-init
 loop-k-init c =
     let a = c.args in
-    let q = c.requires in (
-      omega arith,
-      omega (arith, c.least.ensures),
-      merging_starts a.part.now (block_at a.source.now a.from) a.offset a.bytes.now a.to a.window (length_block a.source.now a.from q.0) q.2 q.3.0 q.3.1 q.1,
-    )
+    let q = c.requires in
+    merging_starts a.part.now (block_at a.source.now a.from) a.patch.offset a.patch.bytes.now a.to a.window (length_block a.source.now a.from q.0) a.patch.inside q.2.0 q.2.1 q.1
 
 pub loop-k-preserved : goal.loop-k-preserved
 loop-k-preserved c =
     let a = c.args in
     let q = c.requires in
     let l = c.loop-k in
-    let m = l.invariant.2 in
+    let m = l.invariant in
     let block = block_at a.source.now a.from in
     let sized = length_block a.source.now a.from q.0 in
     let e = c.lay_word-next.ensures in
-    let read = c.eight_at-visible.ensures ∙ visible_word a.source.now a.from l.k q.0 (omega (arith, q.3.1)) in
-    (omega arith, l.invariant.1, merging_more a.part.now block a.offset a.bytes.now a.to a.window sized q.2 q.3.0 q.3.1 q.1 l.k (omega (arith, l.invariant.1)) m e.0 (e.1 block sized read))
+    let read = c.eight_at-visible.ensures ∙ visible_word a.source.now a.from l.k q.0 (omega (arith, c.min.ensures, q.2.1)) in
+    merging_more a.part.now block a.patch.offset a.patch.bytes.now a.to a.window sized a.patch.inside q.2.0 q.2.1 q.1 l.k (omega (arith, c.min.ensures)) m e.0 (e.1 block sized read)
 
 pub returns : goal.returns
 returns c =
     let a = c.args in
     let q = c.requires in
     let l = c.loop-k in
-    let e : l.k ≡ a.window.first + min a.p a.window.count = omega (arith, c.least.ensures, l.invariant.0) in
-    merging_all a.part.now (block_at a.source.now a.from) a.offset a.bytes.now a.to a.window (length_block a.source.now a.from q.0) q.2 q.3.0 q.3.1 q.1 a.p e l.invariant.2
+    let e : l.k ≡ a.window.first + min a.p a.window.count = omega (arith, c.min.ensures) in
+    merging_all a.part.now (block_at a.source.now a.from) a.patch.offset a.patch.bytes.now a.to a.window (length_block a.source.now a.from q.0) a.patch.inside q.2.0 q.2.1 q.1 a.p e l.invariant

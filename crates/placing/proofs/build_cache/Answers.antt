@@ -5,11 +5,11 @@ use Rattle.placing.specs.Spots.{spot_of}
 use Rattle.placing.proofs.Built.{whole_lays, lays_all}
 use Rattle.placing.proofs.build_cache.Goals as goal
 
-pub returns-then-bytes-eq64 : goal.returns-then-bytes-eq64
-returns-then-bytes-eq64 c =
+pub returns-then-patch-eq64 : goal.returns-then-patch-eq64
+returns-then-patch-eq64 c =
     let a = c.args in
     let q = c.requires in
-    whole_lays a.memory.now a.cache.now (spot_of a.from) (8 * a.to) a.offset a.bytes.now q.0 (omega arith) q.2 c.lay_whole.ensures
+    whole_lays a.memory.now a.cache.now (spot_of a.from) (8 * a.to) a.patch.offset a.patch.bytes.now q.0 (omega arith) a.patch.inside c.lay_whole.ensures
 
 pub returns-in-Memory : goal.returns-in-Memory
 unfolding block_in

@@ -11,5 +11,5 @@ pub returns : goal.returns
 returns c =
     let a = c.args in
     λ (p : ℕ) (window : Window).
-    cache_ended p a.memory.now a.cache.now a.table.now a.controller (replaced (block_in a.memory.now a.cache.now (spot_of a.from)) a.offset a.bytes.now) window (set a.table.now a.slot a.word) _ a.to
+    cache_ended p a.memory.now a.cache.now a.table.now a.controller (replaced (block_in a.memory.now a.cache.now (spot_of a.from)) a.patch.offset a.patch.bytes.now) window (set a.table.now a.slot a.word) _ a.to
     c.build_cache.ensures c.ended.ensures

@@ -10,4 +10,4 @@ pub returns-then-not-is_encoding : goal.returns-then-not-is_encoding
 returns-then-not-is_encoding c = reads_none _ _ c.supposed-says.ensures (λ e. false_is_true (sym (not-true _ (not_from_false _ c.if-not-is_encoding.true)) ∙ c.is_encoding.ensures.1 e))
 
 pub returns : goal.returns
-returns c = reads_record _ _ c.supposed-says.ensures (c.is_encoding.ensures.0 (not-false _ (not_from_true _ c.if-not-is_encoding.false))) (omega arith) _ _ c.wire_in-wire.ensures c.class_of.ensures
+returns c = reads_record _ _ c.supposed-says.ensures (c.is_encoding.ensures.0 (not-false _ (not_from_true _ c.if-not-is_encoding.false))) (omega arith) _ _ c.from-wire.ensures c.class_of.ensures

@@ -14,4 +14,4 @@ returns c =
     let r = c.requires in
     let t = map (changed saved) a.table.now in
     let next = c.other-backup.result in
-    rw (← c.other-backup.ensures) (lays_backup a.controller.geometry next _ _ _ a.controller.registers t c.backup_start-start.ensures (ap (λ (z : ℕ). z - c.backup_start-start.result) c.mark_start.ensures) c.mark_of-mark.ensures a.memory.now r.0 (length-map a.table.now (changed saved) ∙ r.1) a.count a.words (search rules) c.lay_words.ensures)
+    rw (← c.other-backup.ensures) (lays_backup a.controller.geometry next _ _ _ a.controller.registers t c.backup_start-start.ensures (ap (λ (z : ℕ). z - c.backup_start-start.result) c.mark_start.ensures) c.from.ensures a.memory.now r.0 (length-map a.table.now (changed saved) ∙ r.1) a.count a.words (search rules) c.lay_words.ensures)

@@ -1,3 +1,4 @@
+use Rattle.std.proofs.Common.{◌≡◌, length, rules}
 use mathlib.Core.List.{map}
 use native.Mathlib.Omega.{arith}
 use lib.ListN.{length-map}
@@ -9,12 +10,13 @@ use Rattle.checkpoints.proofs.backups.lay_word.Goals as goal
 pub returns-then-index-lt-REGISTER_WORDS : goal.returns-then-index-lt-REGISTER_WORDS
 returns-then-index-lt-REGISTER_WORDS c =
     let a = c.args in
-    lays_register a.place a.mark a.registers.now (map (changed saved) a.table.now) a.index c.if-index-lt-REGISTER_WORDS.true c.lay_bytes.ensures
+    let e : 64 ≡ length a.registers.now = search rules in
+    lays_register a.place a.mark a.registers.now (map (changed saved) a.table.now) a.index 64 c.if-index-lt-REGISTER_WORDS.true e c.lay_bytes.ensures
 
 pub returns-then-slot-table : goal.returns-then-slot-table
 returns-then-slot-table c =
     let a = c.args in
-    lays_saved a.place a.mark a.registers.now a.table.now a.index _ c.if-index-lt-REGISTER_WORDS.false (omega (arith, c.if-slot-table.true)) c.saved_word-word.ensures c.lay_number.ensures
+    lays_saved a.place a.mark a.registers.now a.table.now a.index _ c.if-index-lt-REGISTER_WORDS.false (omega (arith, c.if-slot-table.true)) c.saved_word.ensures c.lay_number.ensures
 
 pub returns : goal.returns
 returns c =

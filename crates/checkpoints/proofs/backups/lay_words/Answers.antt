@@ -3,7 +3,6 @@ use mathlib.Core.List.{map}
 use Prim.Native.Nat.{◌+◌}
 use native.Mathlib.Omega.{arith}
 use lib.ListN.{take, drop}
-use borrow.Author.Rules.{rules}
 use lib.ListN.{length-map}
 use Rattle.words.specs.Words.{lay}
 use Rattle.words.proofs.Laying.{one_more}
@@ -15,14 +14,14 @@ use Rattle.checkpoints.proofs.backups.lay_words.Goals as goal
 
 pub loop-done-init : goal.loop-done-init
 unfolding lay
-loop-done-init c = (omega arith, search rules, refl)
+loop-done-init c = refl
 
 pub loop-done-preserved : goal.loop-done-preserved
 loop-done-preserved c =
     let a = c.args in
     let l = c.loop-done in
     let list = backup_list a.place a.mark a.registers.now (map (changed saved) a.table.now) in
-    (omega arith, c.lay_word.auto.part ∙ l.invariant.1, c.lay_word.ensures ∙ ap (lay (take 1 (drop (a.count + l.done) list))) l.invariant.2 ∙ one_more list a.count l.done a.part.now)
+    c.lay_word.ensures ∙ ap (lay (take 1 (drop (a.count + l.done) list))) l.invariant ∙ one_more list a.count l.done a.part.now
 
 pub returns : goal.returns
 returns c =
@@ -31,4 +30,4 @@ returns c =
     let t = map (changed saved) a.table.now in
     lays_words a.p a.words a.count l.done (backup_list a.place a.mark a.registers.now t)
     (omega (arith, length_list a.place a.mark a.registers.now t, length-map a.table.now (changed saved), c.requires.1))
-    (omega (arith, c.least-stored.ensures, l.invariant.0, c.loop-done-test.false)) l.invariant.2
+    (omega (arith, c.min-done-end.ensures, c.loop-done-test.false)) l.invariant

@@ -1,7 +1,6 @@
 use mathlib.Core.Path.{◌≡◌}
 use mathlib.Core.List.{map}
-use Prim.Native.Nat.{◌-◌, ◌≤◌}
-use lib.ListN.{length, take, drop}
+use lib.ListN.{take, drop}
 use Rattle.words.specs.Words.{lay}
 use Rattle.rules.specs.TableWords.{changed}
 use Rattle.rules.specs.Checkpoints.{saved}
@@ -9,7 +8,4 @@ use Rattle.checkpoints.specs.Backups.{backup_list}
 use Rattle.checkpoints.proofs.backups.lay_words.Given as goal
 
 abbrev pub invariant-loop-done : goal.invariant-loop-done
-invariant-loop-done l = (l.done ≤ l.stored) × (length l.part ≡ length l.initial.part) × (l.part ≡ lay (take l.done (drop l.count (backup_list l.place l.mark l.registers (map (changed saved) l.table)))) l.initial.part)
-
-abbrev pub decreases-loop-done : goal.decreases-loop-done
-decreases-loop-done l = l.stored - l.done
+invariant-loop-done l = (l.part ≡ lay (take l.done (drop l.count (backup_list l.place l.mark l.registers (map (changed saved) l.table)))) l.initial.part)

@@ -1,5 +1,4 @@
-use mathlib.Core.Path.{refl}
-use native.Mathlib.Omega.{arith}
+use Rattle.std.proofs.Common.{◌%◌, ◌≢◌, refl, rules, arith}
 use Rattle.rules.specs.declared.State.TheVariants.{Clean, PreHidden}
 use Rattle.rules.specs.Checkpoints.{saved}
 use Rattle.copies.proofs.Words.{made_clean, made_free, not_saved}
@@ -15,5 +14,7 @@ returns-in-4 c = made_clean saved c.args.word _ PreHidden c.in-4.is refl (omega 
 
 pub returns-in_default : goal.returns-in_default
 returns-in_default c =
-    let n = c.in_default.in_default-own.rest in
-    made_free saved c.args.word (not_saved _ n.0.1 n.1)
+    let word = c.args.word in
+    let one : word % 256 ≢ 1 = search rules in
+    let four : word % 256 ≢ 4 = search rules in
+    made_free saved word (not_saved (word % 256) one four)

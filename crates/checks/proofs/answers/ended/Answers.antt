@@ -6,7 +6,7 @@ use Rattle.checks.proofs.answers.ended.Goals as goal
 
 pub returns-then-p-words : goal.returns-then-p-words
 unfolding ended_of
-returns-then-p-words c = rw (lt-leb c.args.words c.args.p c.if-p-words.true) (c.reply.ensures ∙ ap (answer_of No.Cut c.args.p) c.switched_off-off.ensures)
+returns-then-p-words c = rw (lt-leb c.args.words c.args.p c.if-p-words.true) (c.reply.ensures ∙ ap (answer_of No.Cut c.args.p) c.switched_off.ensures)
 
 pub returns : goal.returns
 unfolding ended_of

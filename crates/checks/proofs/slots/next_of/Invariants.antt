@@ -3,7 +3,4 @@ use Rattle.std.proofs.Common.{◌≡◌, ◌+◌, ◌-◌, ◌*◌, ◌/◌, ◌
 use Rattle.checks.proofs.slots.next_of.Given as goal
 
 abbrev pub invariant-loop-done : goal.invariant-loop-done
-invariant-loop-done l = (l.done ≤ l.fours) × (l.fours ≡ (length l.table - l.start) / 4) × Skipped (of_block l.block) l.table l.start (l.start + 4 * l.done)
-
-abbrev pub decreases-loop-done : goal.decreases-loop-done
-decreases-loop-done l = l.fours - l.done
+invariant-loop-done l = (l.fours ≡ (length l.table - l.start) / 4) × Skipped (of_block l.block) l.table l.start (l.start + 4 * l.done)

@@ -6,10 +6,10 @@ use Rattle.codec.proofs.tables.write_table.Goals as goal
 
 pub loop-slot-init : goal.loop-slot-init
 unfolding number_bytes
-loop-slot-init c = (omega arith, refl, refl)
+loop-slot-init c = refl
 
 pub loop-slot-preserved : goal.loop-slot-preserved
 loop-slot-preserved c =
     let a = c.args in
     let l = c.loop-slot in
-    (omega arith, omega arith, write_turn a.table.now a.bytes.now l.bytes l.slot c.requires (omega arith) l.invariant.2 c.lay_number.ensures)
+    write_turn a.table.now a.bytes.now l.bytes l.slot c.requires (omega arith) l.invariant c.lay_number.ensures

@@ -1,28 +1,28 @@
-use borrow.Author.Tests.{not-false}
-use mathlib.Core.Path.{refl}
-use native.Mathlib.Omega.{arith}
-use Rattle.rules.specs.Board.{board_of}
-use Rattle.checks.proofs.Passed.{refusing, early_stops, early_passed, table_stops, table_refuses, all_passed, lengths, lent_now}
-use Rattle.std.proofs.lemmas.Bool.{not_from_true, not_from_false}
+use Rattle.std.proofs.Common.{ℕ, ◌*◌, ap, ◌∙◌, arith, refl}
+use Rattle.rules.specs.Numbers.{allows}
+use Rattle.checks.proofs.Summing.{checks_pass}
+use Rattle.checks.proofs.Walking.{formed_table}
+use Rattle.copies.proofs.Slots.{blocks_by, one_word, blocks_summed, few_blocks}
 use Rattle.copies.proofs.counts.count_begin.Goals as goal
 
-pub returns-then-not-accepted : goal.returns-then-not-accepted
-returns-then-not-accepted c =
+pub overflow_mul-result : goal.overflow_mul-result
+overflow_mul-result c =
     let a = c.args in
-    (early_stops (board_of a.memory.now a.cache.now a.table.now a.controller) a.unfit _ _ (c.early_number-early.ensures _ (lengths (lent_now a.memory.now a.cache.now a.table.now a.controller)) refl refl) c.accepted.ensures (not_from_false _ c.if-not-accepted.true), λ z. absurd (refusing _ c.accepted.ensures c.if-not-accepted.true z))
+    let k = a.controller in
+    let g = k.geometry in
+    let ok = checks_pass a.memory.now a.cache.now a.table.now k a.unfit c.in_ok-blocks.ensures.judged in
+    let sum = c.in_ok-blocks.ensures.summed blocks_by
+    (λ word n formed post. one_word (allows k.phase) g ok.ready.blocks word n formed post.1) _ refl in
+    let few = few_blocks a.table.now in
+    omega (arith, ok.ready.table, ok.ready.slots)
 
-pub walk_table-walked-requires : goal.walk_table-walked-requires
-walk_table-walked-requires c =
+pub returns-clause-counted : goal.returns-clause-counted
+returns-clause-counted c =
     let a = c.args in
-    let r = early_passed (board_of a.memory.now a.cache.now a.table.now a.controller) a.unfit _ _ (c.early_number-early.ensures _ (lengths (lent_now a.memory.now a.cache.now a.table.now a.controller)) refl refl) c.accepted.ensures (not_from_true _ c.if-not-accepted.false) in
-    (r.some_block, r.blocks, omega (arith, r.table, r.slots))
-
-pub returns-then-not-walked : goal.returns-then-not-walked
-returns-then-not-walked c =
-    let a = c.args in
-    (table_stops (board_of a.memory.now a.cache.now a.table.now a.controller) a.unfit _ _ (c.early_number-early.ensures _ (lengths (lent_now a.memory.now a.cache.now a.table.now a.controller)) refl refl) c.accepted.ensures _ c.walk_table-walked.ensures.0 (not_from_true _ c.if-not-accepted.false) c.if-not-walked.true, λ z. absurd (table_refuses z))
-
-pub returns : goal.returns
-returns c =
-    let a = c.args in
-    (all_passed (board_of a.memory.now a.cache.now a.table.now a.controller) a.unfit _ _ (c.early_number-early.ensures _ (lengths (lent_now a.memory.now a.cache.now a.table.now a.controller)) refl refl) c.accepted.ensures _ c.walk_table-walked.ensures.0 (not_from_true _ c.if-not-accepted.false) c.if-not-walked.false, λ z. c.walk_table-walked.ensures.1 (not-false _ c.if-not-walked.false) a.controller.geometry a.cache.now)
+    let k = a.controller in
+    let g = k.geometry in
+    let t = a.table.now in
+    let ok = checks_pass a.memory.now a.cache.now t k a.unfit c.in_ok-blocks.ensures.judged in
+    let sum = c.in_ok-blocks.ensures.summed blocks_by
+    (λ word n formed post. one_word (allows k.phase) g ok.ready.blocks word n formed post.1) _ refl in
+    ap (λ (z : ℕ). 8 * z) sum ∙ blocks_summed g a.cache.now 0 t (formed_table (allows k.phase) g t ok.ready.blocks ok.formed)

@@ -1,6 +1,5 @@
-use Rattle.forms.proofs.HeaderBytes.{header_sixteen}
-use native.Mathlib.Omega.{arith}
+use Rattle.forms.proofs.HeaderBytes.{header_laid}
 use Rattle.header.proofs.stored.header_bytes.Goals as goal
 
 pub returns : goal.returns
-returns c = header_sixteen c.args.g (record { blocks = omega arith; slots = omega arith })
+returns c = rw (c.to_be_bytes.ensures, c.to_be_bytes-2.ensures) (header_laid c.args.g)

@@ -10,4 +10,4 @@ overflow_add-result c =
     omega (arith, second, first)
 
 pub returns : goal.returns
-returns c = header_lays c.args.g c.memory_words-first_place.ensures c.header_bytes-header.result _ c.header_bytes-header.ensures (second_part c.args.g _ c.header_bytes-header.ensures) c.lay_bytes-second.ensures c.left_of-left.ensures c.lay_bytes-first.ensures
+returns c = header_lays c.args.g c.memory_words-first_place.ensures c.header_bytes-header.result _ c.header_bytes-header.ensures (second_part c.args.g _ c.header_bytes-header.ensures) c.lay_bytes-second.ensures c.saturating_sub-left.ensures c.lay_bytes-first.ensures

@@ -22,4 +22,4 @@ overflow_add-result-2 c =
     omega (arith, zeroed, formatted, headed)
 
 pub returns : goal.returns
-returns c = long_lays c.args.g c.args.fill c.zero_first-zeroed.ensures c.left_of-left1.ensures c.lay_format-formatted.ensures c.left_of-left2.ensures c.lay_header-headed.ensures
+returns c = long_lays c.args.g c.args.fill c.zero_first-zeroed.ensures c.saturating_sub-left1.ensures c.lay_format-formatted.ensures c.saturating_sub-left2.ensures c.lay_header-headed.ensures

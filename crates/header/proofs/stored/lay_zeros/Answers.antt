@@ -9,4 +9,4 @@ overflow_add-result c =
     omega (arith, first, second)
 
 pub returns : goal.returns
-returns c = zeros_lay c.args.g c.memory_words-first_place.ensures c.fill_words-first.ensures c.left_of-left.ensures c.fill_words-second.ensures
+returns c = zeros_lay c.args.g c.memory_words-first_place.ensures c.fill_words-first.ensures c.saturating_sub-left.ensures c.fill_words-second.ensures

@@ -27,4 +27,4 @@ pub returns : goal.returns
 returns c =
     let a = c.args in
     format_lays a.g a.fill c.home_start-home.ensures c.home_words-home_words.ensures c.backup_start-backup.ensures c.backup_words-backup_words.ensures
-    c.lay_mark-unmarked.ensures c.left_of-left1.ensures c.lay_fill-filled.ensures c.left_of-left2.ensures c.lay_fill-cleared.ensures c.left_of-left3.ensures c.lay_mark-marked.ensures
+    c.lay_mark-unmarked.ensures c.saturating_sub-left1.ensures c.lay_fill-filled.ensures c.saturating_sub-left2.ensures c.lay_fill-cleared.ensures c.saturating_sub-left3.ensures c.lay_mark-marked.ensures

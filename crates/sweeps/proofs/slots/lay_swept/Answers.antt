@@ -29,7 +29,7 @@ pub loop-done-preserved : goal.loop-done-preserved
 loop-done-preserved c =
     let a = c.args in
     let q = c.requires in
-    walk_more a.g a.memory.now a.table.now q.0 a.p a.entries q.1 c.loop-done.invariant c.loop-done-test.true c.next_clean-slot.ensures _ c.left_of-left.ensures c.copy_home.auto.memory c.copy_home.ensures
+    walk_more a.g a.memory.now a.table.now q.0 a.p a.entries q.1 c.loop-done.invariant c.loop-done-test.true c.next_clean-slot.ensures _ c.saturating_sub.ensures c.copy_home.auto.memory c.copy_home.ensures
 
 pub returns : goal.returns
 returns c =

@@ -1,8 +1,0 @@
-use Rattle.std.proofs.Common.{◌-◌}
-use Rattle.drops.proofs.try_stops.Given as goal
-
-abbrev pub invariant-loop-p : goal.invariant-loop-p
-invariant-loop-p l = Unit {0}
-
-abbrev pub decreases-loop-p : goal.decreases-loop-p
-decreases-loop-p l = l.stops - l.p
