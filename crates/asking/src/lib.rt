@@ -19,7 +19,7 @@ pub enum Asked {
     Step(u16),
     Allow(u16),
     Recover,
-    // an unknown tag or a wrong length
+    // an unknown tag or a wrong length: a field too, with a line of its own
     Bad,
 }
 

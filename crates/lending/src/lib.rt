@@ -196,7 +196,7 @@ impl Arrays {
         store_lent(memory, cache, table, controller, block, offset, bytes, p)
     }
 
-    // The number, and accepted the bytes in `into`.
+    // The number, DONE among them, as document 01 has it, and accepted the bytes in `into`.
     pub fn load(
         &self,
         controller: Controller,

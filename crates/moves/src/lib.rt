@@ -11,6 +11,7 @@ use rules::{Entry, Phase, Place, State};
 
 pub mod windows;
 
+// A row's entry in a column: three cases, of which the third is no refusal but what no well formed table has.
 #[derive(Clone, Copy)]
 pub enum Move {
     // where all 64 bytes go, and the entry's state after

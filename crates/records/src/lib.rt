@@ -64,6 +64,7 @@ pub struct Found {
 }
 
 #[tactic(auto, unfolding(crate::specs::Records::flag))]
+// A field put at its place, and no conversion.
 fn put_flag(into: &mut [u8], start: usize, tag: u8, flag: bool) -> usize
     requires { start + 4 ≤ length into.old }
     ensures { Puts (field tag (R.flag flag)) start into.old into.new result }

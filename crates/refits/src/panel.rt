@@ -111,6 +111,7 @@ impl Panel {
         recovery
     }
 
+    // A load answers a number, as document 01 has it.
     fn load(&self, block: usize, into: &mut [u8]) -> Number {
         let old = self.old_memory();
         board::load(

@@ -24,6 +24,7 @@ fn in_room<R, F: FnMut(&mut [u64]) -> R>(slots: usize, call: &mut F) -> R
     call(&mut [0u64; 512][..slots])
 }
 
+// It answers a number, DONE among them, as document 01 has it.
 pub fn load(
     memory: &[u8],
     cache: &[u8],

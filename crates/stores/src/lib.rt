@@ -57,7 +57,7 @@ pub fn store(
     )
 }
 
-// The number of a store that isn't cut, as document 01 has it.
+// The number of a store that isn't cut, as document 01 has it. The check is written out as in `store`, which goes on with the slices lent by &mut.
 pub fn store_number(
     memory: &[u8],
     cache: &[u8],

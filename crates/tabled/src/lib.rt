@@ -33,6 +33,7 @@ fn write_back(table: &mut [u8], words: &[u64], number: Number)
 
 // Each call reads the table, calls the board and writes back. A shared function would have to be lent a closure, which takes as many lines.
 
+// A load answers a number, DONE among them, as document 01 has it.
 pub fn load(
     memory: &[u8],
     cache: &[u8],

@@ -41,7 +41,7 @@ pub fn fill_words(part: &mut [u8], place: usize, count: usize, fill: u8, p: usiz
     count
 }
 
-// A number as a word, the lowest byte first.
+// A number as a word, the lowest byte first: the library's, under the contract that callers cite.
 #[tactic(auto, using(crate::proofs::Bytes::word_written))]
 pub fn word_bytes(value: u64) -> [u8; 8]
     ensures { result ≡ little_endian 8 value }
