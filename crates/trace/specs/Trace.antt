@@ -22,7 +22,7 @@ use Rattle.lending.specs.Lending.{board_in, called}
 
 -- ---- the bench
 
--- of a field of tag 6 that isn't used yet
+-- the words of a field of tag 6, or none
 abbrev pub Allowance : Type 0
 Allowance = P.Option ℕ
 
