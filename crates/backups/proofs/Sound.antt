@@ -161,7 +161,7 @@ swap true false true d = refl
 swap true false false d = refl
 swap false b c d = refl
 
--- what `take_word` answers of a word and the words after it
+-- what a set's `take` answers of a word and the words after it
 abbrev fine : Geometry → ℕ → List ℕ → Bool
 fine g w ws = well_formed only_clean g w && new_to ws (says w)
 

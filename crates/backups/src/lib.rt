@@ -59,23 +59,16 @@ pub fn clean_word(word: u64, g: Geometry) -> bool
 }
 
 // That there are at most 4,096 blocks stands in each contract: a Geometry may have any number.
-// Whether a word may stand before the words whose blocks the set holds; if so, its block joins the set.
-pub fn take_word(word: u64, g: Geometry, set: &mut BlockSet) -> bool
-    requires { g.blocks ≤ 4096 }
-    ensures { (after : List ℕ) → Marks set.old.words after → Took g word after set.new.words result }
+// For a caller whose words are lent: they are copied into a set, which takes the word by its method, and copied back.
+pub fn take_word(word: u64, g: Geometry, set: &mut [u64]) -> bool
+    requires { (g.blocks ≤ 4096) × (length set.old ≡ 64) }
+    ensures { (after : List ℕ) → Marks set.old after → Took g word after set.new result }
 {
-    if !clean_word(word, g) {
-        return false;
-    }
-    if word == 0 {
-        return true;
-    }
-    let block = (word / 256) as usize;
-    if set.has(block) {
-        return false;
-    }
-    set.put(block);
-    true
+    let mut held = BlockSet::empty();
+    held.words.copy_from_slice(set);
+    let taken = held.take(word, g);
+    set.copy_from_slice(&held.words);
+    taken
 }
 
 // From the last slot to the first, since a word is compared with those after it.
@@ -85,7 +78,7 @@ pub fn backup_sound(part: &[u8], g: Geometry) -> bool
 {
     let mut set = BlockSet::empty();
     for slot in (0..g.slots as usize).rev() {
-        if !take_word(number_at(part, 8 + slot), g, &mut set) {
+        if !set.take(number_at(part, 8 + slot), g) {
             return false;
         }
     }
@@ -155,8 +148,9 @@ pub fn recover_from(
     if !backup_sound(part, g) {
         return refused_recovery(Number::Backup, controller);
     }
-    copy_table(part, table);
     let started = opened(part, g, backup, registers);
+    // last, next to the walk in which the C door copies the words on: so a compiler makes one copy of the two
+    copy_table(part, table);
     Recovery {
         answer: reply(Number::Done, 0, started),
         registers,

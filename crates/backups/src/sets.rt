@@ -1,6 +1,9 @@
 // A set of blocks as 4096 bits in 64 words.
-ghost use Rattle.std.specs.Prelude.{◌≡◌, false, ◌||◌, ℕ, ◌<◌, eqb, replicate};
-ghost use Rattle.backups.specs.Sets.{has};
+ghost use Rattle.std.specs.Prelude.{◌≡◌, false, ◌||◌, List, ℕ, ◌≤◌, ◌<◌, eqb, replicate};
+ghost use Rattle.backups.specs.Sets.{has, Marks, Took};
+
+use crate::clean_word;
+use rules::Geometry;
 
 #[derive(Clone, Copy, Debug, PartialEq, Eq)]
 pub struct BlockSet {
@@ -29,5 +32,24 @@ impl BlockSet {
         let place = block / 64;
         let word = self.words[place];
         self.words[place] = word + (1 << (block % 64));
+    }
+
+    // Whether a word may stand before the words whose blocks the set holds; if so, its block joins the set.
+    pub fn take(&mut self, word: u64, g: Geometry) -> bool
+        requires { g.blocks ≤ 4096 }
+        ensures { (after : List ℕ) → Marks self.old.words after → Took g word after self.new.words result }
+    {
+        if !clean_word(word, g) {
+            return false;
+        }
+        if word == 0 {
+            return true;
+        }
+        let block = (word / 256) as usize;
+        if self.has(block) {
+            return false;
+        }
+        self.put(block);
+        true
     }
 }

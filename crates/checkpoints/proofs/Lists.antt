@@ -7,7 +7,7 @@ use native.Mathlib.Nat.{add-zero, zero-add}
 use lib.ListN.{length, take, drop, get_or, length-append, length-drop, length-take, length-map}
 use lib.Seq.{drop-drop, drop-append-add, drop-append-le, take-append-le}
 use Rattle.words.specs.Words.{Store, Lays, lay, bytes_to, numbers_to, number_bytes, little_endian}
-use Rattle.words.proofs.Laying.{take_least}
+use Rattle.words.proofs.Laying.{take_least, one_more}
 use Rattle.words.proofs.All.{All, all_take, all_drop, all_append}
 use Rattle.words.proofs.Lists.{Fit}
 use Rattle.words.proofs.Makers.{bytes_to_laid, numbers_to_laid}
@@ -40,6 +40,19 @@ length_three a b c mark registers table = simp (length-append, length-bytes_to, 
 pub length_checkpoint : (g : Geometry) (backup : Backup) (registers table : List ℕ) → length (checkpoint_list g backup registers table) ≡ length table + 9
 unfolding checkpoint_list
 length_checkpoint g backup registers table = length_three (backup_start g backup) (backup_start g backup + 8) (mark_start g) (mark_of backup) registers table
+
+-- ---- the words from c on up to one index, and one word further
+
+pub to_start : (stores : List Store) (c : ℕ) (memory : List ℕ) → memory ≡ lay (take (c - c) (drop c stores)) memory
+unfolding lay
+to_start stores c memory = let e : c - c ≡ 0 = omega arith in rw e refl
+
+pub to_next : (stores : List Store) (c i : ℕ) (memory : List ℕ) → c ≤ i
+    → lay (take 1 (drop i stores)) (lay (take (i - c) (drop c stores)) memory) ≡ lay (take (i + 1 - c) (drop c stores)) memory
+to_next stores c i memory h =
+    let e : c + (i - c) ≡ i = omega arith in
+    let f : i + 1 - c ≡ i - c + 1 = omega arith in
+    rw f (rw e at (one_more stores c (i - c) memory))
 
 -- ---- one word of a run
 

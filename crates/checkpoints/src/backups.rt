@@ -37,11 +37,11 @@ pub fn lay_word(
     part: &mut [u8],
     place: usize,
     mark: u64,
-    registers: &[u8; 64],
+    registers: &[u8],
     table: &[u64],
     index: usize,
 )
-    requires { Room place (length table.now) (length part.old) × (index < length table.now + 9) }
+    requires { Room place (length table.now) (length part.old) × (index < length table.now + 9) × (length registers.now ≡ 64) }
     ensures { part.new ≡ lay (take 1 (drop index (backup_list place mark registers.now (map (changed R.saved) table.now)))) part.old }
 {
     if index < Geometry::REGISTER_WORDS {
@@ -63,17 +63,17 @@ pub fn lay_words(
     part: &mut [u8],
     place: usize,
     mark: u64,
-    registers: &[u8; 64],
+    registers: &[u8],
     table: &[u64],
     count: usize,
     words: usize,
     p: usize,
 ) -> usize
-    requires { Room place (length table.now) (length part.old) × (count + words ≤ length table.now + 9) }
+    requires { Room place (length table.now) (length part.old) × (count + words ≤ length table.now + 9) × (length registers.now ≡ 64) }
     ensures { Lays p (take words (drop count (backup_list place mark registers.now (map (changed R.saved) table.now)))) part.old part.new result }
 {
-    for done in 0..p.min(words) {
-        lay_word(part, place, mark, registers, table, count + done);
+    for index in count..count + p.min(words) {
+        lay_word(part, place, mark, registers, table, index);
     }
     words
 }
@@ -94,11 +94,13 @@ pub fn lay_next(
     let backup = other(controller.finished);
     let start = g.backup_start(backup);
     let place = g.mark_start() - start;
+    // the registers alone: lent from the record, all of it would be copied
+    let registers = controller.registers;
     lay_words(
         &mut memory[8 * start..],
         place,
         u64::from(backup),
-        &controller.registers,
+        &registers,
         table,
         count,
         words,

@@ -119,6 +119,7 @@ pub fn check_early(
 }
 
 // The checks 1 to 5 of load, peek, store, begin and step.
+#[inline]
 pub fn check_common(
     memory: usize,
     cache: usize,

@@ -10,8 +10,8 @@ pub fn read_table(bytes: &[u8], table: &mut [u64])
     requires { length bytes.now ≡ 8 * length table.old }
     ensures { (table.new ≡ numbers bytes.now 0 (length table.old)) × (number_bytes table.new ≡ bytes.now) }
 {
-    for (slot, word) in table.iter_mut().enumerate() {
-        *word = number_at(bytes, slot);
+    for slot in 0..table.len() {
+        table[slot] = number_at(bytes, slot);
     }
 }
 
@@ -19,7 +19,7 @@ pub fn write_table(table: &[u64], bytes: &mut [u8])
     requires { length bytes.old ≡ 8 * length table.now }
     ensures { bytes.new ≡ number_bytes table.now }
 {
-    for (slot, word) in table.iter().enumerate() {
-        lay_number(bytes, slot, *word, 1);
+    for slot in 0..table.len() {
+        lay_number(bytes, slot, table[slot], 1);
     }
 }

@@ -14,7 +14,7 @@ ghost use Rattle.copies.specs.Records.{begun_record};
 ghost use Rattle.copies.specs.Copies.{Slotted};
 
 use rules::{Controller, Geometry, Phase};
-use words::{copy_part, lay_bytes};
+use words::{copy_part, lay_block, lay_bytes};
 
 pub mod counts;
 
@@ -63,6 +63,18 @@ pub fn copy_slot(
     lay_bytes(memory, 8 * block, &cache[from..], Geometry::BLOCK_WORDS, p)
 }
 
+// A slot's copy where the allowance is enough.
+pub fn copy_whole(memory: &mut [u8], cache: &[u8], g: Geometry, slot: usize, word: u64) -> usize
+    requires { Slotted g slot word (length memory.old) (length cache.now) }
+    ensures { Lays 8 (R.copy_of cache.now slot (R.copied_to g slot (says word))) memory.old memory.new result }
+{
+    let Some(block) = copied_to(g, slot, word) else {
+        return 0;
+    };
+    let from = 64 * slot;
+    lay_block(memory, 8 * block, &cache[from..from + 64])
+}
+
 // The copies of all slots under an allowance, for a begin that is cut: its table stays.
 pub fn lay_copies(memory: &mut [u8], cache: &[u8], table: &[u64], g: Geometry, p: usize) -> usize
     requires { Ready g memory.old cache.now table.now × (every (well_formed (allows P.Running) g) table.now ≡ true) }
@@ -84,7 +96,7 @@ pub fn begin_slots(memory: &mut [u8], cache: &[u8], table: &mut [u64], g: Geomet
         // before its block is copied, so that both tests of its code are compiled into one
         let before = *word;
         *word = begun_word(before);
-        copy_slot(memory, cache, g, slot, before, Geometry::BLOCK_WORDS);
+        copy_whole(memory, cache, g, slot, before);
     }
 }
 

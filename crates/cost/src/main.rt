@@ -4,8 +4,7 @@
 use board::{Answer, begin, format, load, recover, step, store, sweep};
 use case::{Call, Case};
 use rules::{Controller, Geometry, Number};
-use std::io::{Stdin, Stdout};
-use std::{fmt, io};
+use std::fmt;
 
 mod case;
 
@@ -194,20 +193,16 @@ fn measure(case: &Case) -> Given {
     bench.repeat(*case)
 }
 
-// Cases to the input's end.
-fn run(input: Stdin, out: Stdout) -> io::Result<()> {
+// Cases to the input's end. It goes on after a line that can't be written.
+fn main(rt: HostRuntime) {
+    let input = rt.stdin();
+    let out = rt.stdout();
     // A count, since a loop has to be proved to end.
     for _ in 0..u64::MAX {
         let mut bytes = [0; 14];
         if streams::read_full(input, &mut bytes) < 14 {
-            break;
+            return;
         }
-        println!(out; "{}", measure(&Case::from(bytes)))?;
+        let _ = println!(out; "{}", measure(&Case::from(bytes)));
     }
-    Ok(())
-}
-
-fn main(rt: HostRuntime) {
-    // A write that fails ends the run, and the status stays 0.
-    let _ = run(rt.stdin(), rt.stdout());
 }

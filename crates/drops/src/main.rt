@@ -7,7 +7,6 @@ use images::Checkpoint;
 use keeping::{drafted, keep};
 use report::{print_field, try_stops};
 use rules::Geometry;
-use std::io;
 use std::io::{Stdin, Stdout};
 use std::ops::ControlFlow;
 use stops::{Panel, Plan, act, stores_words};
@@ -68,27 +67,21 @@ fn carry(panel: &mut Panel, asked: Asked, value: &[u8]) {
 }
 
 // A field: its stops, each on a copy, then its own call on the board.
-fn answered(
-    out: Stdout,
-    panel: &mut Panel,
-    field: u64,
-    asked: Asked,
-    value: &[u8],
-) -> io::Result<()> {
+fn answered(out: Stdout, panel: &mut Panel, field: u64, asked: Asked, value: &[u8]) {
     let plan = Plan::of(panel, asked, value);
     let draft = drafted(panel, plan);
     panel.draft = draft;
-    print_field(out, field, plan)?;
-    let wrong = try_stops(out, panel, plan, value)?;
+    print_field(out, field, plan);
+    let wrong = try_stops(out, panel, plan, value);
     panel.tried = panel.tried.wrapping_add(plan.stops() as u64);
     panel.wrong = panel.wrong.wrapping_add(wrong);
     carry(panel, asked, value);
-    Ok(())
 }
 
-fn bad(out: Stdout, field: u64) -> io::Result<ControlFlow<()>> {
-    println!(out; "bad {field}")?;
-    Ok(ControlFlow::Break(()))
+// The run goes on after a text that can't be written, here as in `report`.
+fn bad(out: Stdout, field: u64) -> ControlFlow<()> {
+    let _ = println!(out; "bad {field}");
+    ControlFlow::Break(())
 }
 
 // The field with its head read. A length over 67 is wrong for every tag, and such a value isn't read.
@@ -99,7 +92,7 @@ fn valued(
     field: u64,
     tag: u8,
     len: usize,
-) -> io::Result<ControlFlow<()>> {
+) -> ControlFlow<()> {
     let mut value = [0u8; 67];
     if value.len() < len {
         return bad(out, field);
@@ -112,15 +105,15 @@ fn valued(
     if asked == Asked::Bad {
         return bad(out, field);
     }
-    answered(out, panel, field, asked, value)?;
-    Ok(ControlFlow::Continue(()))
+    answered(out, panel, field, asked, value);
+    ControlFlow::Continue(())
 }
 
 // One field of the trace; tells whether the run goes on. The end of the input between fields ends it quietly, inside a field with `bad`.
-fn one(input: Stdin, out: Stdout, panel: &mut Panel, field: u64) -> io::Result<ControlFlow<()>> {
+fn one(input: Stdin, out: Stdout, panel: &mut Panel, field: u64) -> ControlFlow<()> {
     let mut head = [0u8; 3];
     match read_full(input, &mut head) {
-        0 => Ok(ControlFlow::Break(())),
+        0 => ControlFlow::Break(()),
         3 => {
             let [tag, high, low] = head;
             valued(input, out, panel, field, tag, length_of(high, low))
@@ -129,20 +122,17 @@ fn one(input: Stdin, out: Stdout, panel: &mut Panel, field: u64) -> io::Result<C
     }
 }
 
-fn run(input: Stdin, out: Stdout) -> io::Result<()> {
+fn main(rt: HostRuntime) {
+    let input = rt.stdin();
+    let out = rt.stdout();
     let mut panel = first_panel();
     // A count, since a loop has to be proved to end.
     for field in 1..=u64::MAX {
-        if one(input, out, &mut panel, field)?.is_break() {
+        if one(input, out, &mut panel, field).is_break() {
             break;
         }
     }
     let tried = panel.tried;
     let wrong = panel.wrong;
-    println!(out; "{tried} stops tried, {wrong} deviate from the expected")
-}
-
-fn main(rt: HostRuntime) {
-    // A write that fails ends the run, and the status stays 0.
-    let _ = run(rt.stdin(), rt.stdout());
+    let _ = println!(out; "{tried} stops tried, {wrong} deviate from the expected");
 }

@@ -1,8 +1,8 @@
-// What the program prints of a field: its name, its list, and its stops in runs.
+// What the program prints of a field: its name, its list, and its stops in runs. A text that can't be written is left out.
 use crate::stops::{Came, Panel, Plan, came_back};
 use asking::Asked;
+use std::fmt;
 use std::io::Stdout;
-use std::{fmt, io};
 
 // Stops in a row with the same outcome.
 #[derive(Clone, Copy)]
@@ -32,15 +32,15 @@ fn name_of(asked: Asked) -> &'static str {
 }
 
 // The head of a field's line.
-pub fn print_field(out: Stdout, field: u64, plan: Plan) -> io::Result<()> {
+pub fn print_field(out: Stdout, field: u64, plan: Plan) {
     let name = name_of(plan.asked);
     let words = plan.answer.words;
     let stops = plan.stops();
-    print!(out; "{field} {name} {words} words {stops} stops")
+    let _ = print!(out; "{field} {name} {words} words {stops} stops");
 }
 
 // The stops of a field, each on a copy, to the end of the line; returns how many deviate.
-pub fn try_stops(out: Stdout, panel: &Panel, plan: Plan, value: &[u8]) -> io::Result<u64> {
+pub fn try_stops(out: Stdout, panel: &Panel, plan: Plan, value: &[u8]) -> u64 {
     let mut wrong: u64 = 0;
     let mut lead = ": ";
     let mut last: Option<Run> = None;
@@ -54,7 +54,7 @@ pub fn try_stops(out: Stdout, panel: &Panel, plan: Plan, value: &[u8]) -> io::Re
             if run.came == came {
                 count = run.count;
             } else {
-                print!(out; "{lead}{run}")?;
+                let _ = print!(out; "{lead}{run}");
                 lead = ", ";
             }
         }
@@ -64,8 +64,8 @@ pub fn try_stops(out: Stdout, panel: &Panel, plan: Plan, value: &[u8]) -> io::Re
         });
     }
     if let Some(run) = last {
-        print!(out; "{lead}{run}")?;
+        let _ = print!(out; "{lead}{run}");
     }
-    println!(out; "")?;
-    Ok(wrong)
+    let _ = println!(out; "");
+    wrong
 }

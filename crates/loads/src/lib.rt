@@ -37,6 +37,7 @@ pub fn out_of_range(g: Geometry, block: usize, offset: usize, len: usize) -> boo
 }
 
 // The checks 1 to 6 of a load, and of a store of as many bytes, by the lent lengths.
+#[inline]
 pub fn check_load(
     memory: usize,
     cache: usize,

@@ -119,6 +119,7 @@ pub fn format(
     in_room(slots, &mut call)
 }
 
+// One room, lent by no closure: so the compiler leaves the array out, and a recovery's words go from the memory straight to the table's bytes.
 pub fn recover(
     memory: &[u8],
     cache: &[u8],
@@ -130,6 +131,6 @@ pub fn recover(
     ensures { (p : ℕ) → T.TabledRecovery (C.call p (board_of memory.now cache.now (T.table_words table.old) controller) (C.recover g)) result memory.now cache.now table.old table.new }
 {
     let slots = table.len() / 8;
-    let mut call = |words: &mut [u64]| tabled::recover(memory, cache, table, words, controller, g);
-    in_room(slots, &mut call)
+    let mut words = [0u64; 512];
+    tabled::recover(memory, cache, table, &mut words[..slots], controller, g)
 }

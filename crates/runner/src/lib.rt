@@ -2,7 +2,6 @@
 #![tactic(auto)]
 
 use fields::length_of;
-use std::io;
 use std::io::{Stdin, Stdout, Write};
 use std::ops::ControlFlow;
 use streams::read_full;
@@ -18,35 +17,35 @@ struct Session {
     left: u64,
 }
 
-// Each method tells whether the run goes on.
+// Each method tells whether the run goes on. It goes on after a line that can't be written, too.
 impl Session {
     // A short field.
-    fn bad(&mut self, field: u64) -> io::Result<ControlFlow<()>> {
+    fn bad(&mut self, field: u64) -> ControlFlow<()> {
         let mut line = [0u8; 640];
         let end = put_bad(&mut line, field);
         let mut out = self.out;
-        out.write_all(&line[..end])?;
-        Ok(ControlFlow::Break(()))
+        let _ = out.write_all(&line[..end]);
+        ControlFlow::Break(())
     }
 
     // The field's own turn, with its value read.
-    fn answered(&mut self, field: u64, tag: u8, value: &[u8]) -> io::Result<ControlFlow<()>> {
+    fn answered(&mut self, field: u64, tag: u8, value: &[u8]) -> ControlFlow<()> {
         let mut line = [0u8; 640];
         let mut out = self.out;
         match self.bench.take_turn(field, tag, value, &mut line) {
             ControlFlow::Continue(end) => {
-                out.write_all(&line[..end])?;
-                Ok(ControlFlow::Continue(()))
+                let _ = out.write_all(&line[..end]);
+                ControlFlow::Continue(())
             }
             ControlFlow::Break(end) => {
-                out.write_all(&line[..end])?;
-                Ok(ControlFlow::Break(()))
+                let _ = out.write_all(&line[..end]);
+                ControlFlow::Break(())
             }
         }
     }
 
     // The field with its head read. A length over 67 is wrong for every tag, and such a value isn't read.
-    fn valued(&mut self, field: u64, tag: u8, len: usize) -> io::Result<ControlFlow<()>> {
+    fn valued(&mut self, field: u64, tag: u8, len: usize) -> ControlFlow<()> {
         let mut value = [0u8; 67];
         if value.len() < len {
             return self.bad(field);
@@ -63,9 +62,9 @@ impl Session {
     }
 
     // One field of the trace. The trace's end between fields ends the run quietly, inside a field with `bad`.
-    fn one(&mut self, field: u64) -> io::Result<ControlFlow<()>> {
+    fn one(&mut self, field: u64) -> ControlFlow<()> {
         if self.left == 0 {
-            return Ok(ControlFlow::Break(()));
+            return ControlFlow::Break(());
         }
         if self.left < 3 {
             return self.bad(field);
@@ -75,7 +74,7 @@ impl Session {
         match read_full(self.input, &mut head) {
             0 => {
                 self.left = 0;
-                Ok(ControlFlow::Break(()))
+                ControlFlow::Break(())
             }
             3 => {
                 let [tag, high, low] = head;
@@ -90,7 +89,6 @@ impl Session {
 }
 
 // A trace of at most `limit` bytes on a bench that is all zero; returns how many of them aren't read.
-// It ends, too, at a line that can't be written.
 pub fn run(input: Stdin, out: Stdout, limit: u64) -> u64 {
     let mut session = Session {
         input,
@@ -100,9 +98,8 @@ pub fn run(input: Stdin, out: Stdout, limit: u64) -> u64 {
     };
     // A count, since a loop has to be proved to end.
     for field in 1..=u64::MAX {
-        match session.one(field) {
-            Ok(ControlFlow::Continue(())) => {}
-            Ok(ControlFlow::Break(())) | Err(_) => break,
+        if session.one(field).is_break() {
+            break;
         }
     }
     session.left

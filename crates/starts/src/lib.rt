@@ -16,6 +16,7 @@ use rules::{Answer, Backup, Controller, Geometry, Number, Recovery};
 
 pub mod formats;
 
+#[inline]
 pub fn format(
     memory: &mut [u8],
     cache: &[u8],

@@ -9,8 +9,11 @@ use lending::Arrays;
 use rules::{Backup, Controller, Geometry, Phase};
 use std::ops::ControlFlow;
 
+pub mod lent;
 pub mod printing;
 pub mod turns;
+
+pub use lent::{Held, Turn, take_turn};
 
 #[derive(Clone, Copy)]
 pub struct Bench {

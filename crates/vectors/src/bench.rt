@@ -127,10 +127,10 @@ impl Bench {
     }
 
     // The number, the words stored, the record, the table, the words of the memory that the call changed, and those of CACHE.
-    fn call(&mut self, out: Stdout, call: Call) -> io::Result<()> {
+    fn call(&mut self, out: Stdout, call: Call) {
         let old_memory = self.memory;
         let old_cache = self.cache;
-        let answer = call.answer(out, self.lend())?;
+        let answer = call.answer(out, self.lend());
         self.controller = answer.controller;
         let Lent {
             memory,
@@ -138,8 +138,8 @@ impl Bench {
             table,
             controller,
         } = self.lend();
-        print!(out; " {} {} |", u64::from(answer.number), answer.words)?;
-        print!(out; "{} |{} |", Record(controller), Table(table))?;
+        let _ = print!(out; " {} {} |", u64::from(answer.number), answer.words);
+        let _ = print!(out; "{} |{} |", Record(controller), Table(table));
         let in_memory = Changes {
             old: &old_memory,
             new: memory,
@@ -148,29 +148,31 @@ impl Bench {
             old: &old_cache,
             new: cache,
         };
-        println!(out; "{in_memory} |{in_cache}")
+        let _ = println!(out; "{in_memory} |{in_cache}");
     }
 
     // The line itself, and what it gives, indented.
-    pub fn turn(&mut self, out: Stdout, line: Line<'_>) -> io::Result<()> {
-        io::writer(&out).write_all(line.0)?;
-        println!(out)?;
+    pub fn turn(&mut self, out: Stdout, line: Line<'_>) {
+        let _ = io::writer(&out).write_all(line.0);
+        let _ = println!(out);
         if line.is_note() {
-            return Ok(());
+            return;
         }
         if let Some(call) = Call::parse(line) {
-            print!(out; " ")?;
-            return self.call(out, call);
+            let _ = print!(out; " ");
+            self.call(out, call);
+            return;
         }
         if let Some(reading) = Reading::parse(line) {
-            print!(out; " ")?;
-            reading.print(out, self.lend())?;
-            return println!(out);
+            let _ = print!(out; " ");
+            reading.print(out, self.lend());
+            let _ = println!(out);
+            return;
         }
         let Some(setting) = Setting::parse(line) else {
-            return println!(out; "  unknown");
+            let _ = println!(out; "  unknown");
+            return;
         };
         self.set(setting);
-        Ok(())
     }
 }

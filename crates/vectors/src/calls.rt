@@ -5,7 +5,6 @@ use crate::print::Name;
 use crate::text::Line;
 use crate::wiring::wire_in;
 use board::{Answer, Geometry, Recovery};
-use std::io;
 use std::io::Stdout;
 use wires::Wire;
 
@@ -54,9 +53,9 @@ fn counted(first: u8) -> [u8; 65] {
 }
 
 // What a recovery answers, after it is printed whether it has registers.
-pub fn recovered(out: Stdout, recovery: Recovery) -> io::Result<Answer> {
-    print!(out; " {},", Name(recovery.registers))?;
-    Ok(recovery.answer)
+pub fn recovered(out: Stdout, recovery: Recovery) -> Answer {
+    let _ = print!(out; " {},", Name(recovery.registers));
+    recovery.answer
 }
 
 impl Call {
@@ -98,14 +97,14 @@ impl Call {
     }
 
     // What the call answers. Before a store the companion's number is printed, and after a recovery whether it has registers.
-    pub fn answer(self, out: Stdout, lent: Lent<'_>) -> io::Result<Answer> {
+    pub fn answer(self, out: Stdout, lent: Lent<'_>) -> Answer {
         let Lent {
             memory,
             cache,
             table,
             controller: c,
         } = lent;
-        Ok(match self {
+        match self {
             Call::Store {
                 block,
                 offset,
@@ -116,7 +115,7 @@ impl Call {
                 let bytes = counted(first);
                 let bytes = &bytes[..len.min(65)];
                 let number = board::store_number(memory, cache, table, c, block, offset, bytes);
-                print!(out; " {},", u64::from(number))?;
+                let _ = print!(out; " {},", u64::from(number));
                 board::store(memory, cache, table, c, block, offset, bytes, p)
             }
             Call::Wire { block, wire, p } => wires::write(memory, cache, table, c, block, wire, p),
@@ -127,7 +126,7 @@ impl Call {
             Call::Step { most, p } => board::step(memory, cache, table, c, most, p),
             Call::Sweep { limit, p } => board::sweep(memory, cache, table, c, limit, p),
             Call::Format { g, fill, p } => board::format(memory, cache, table, c, g, fill, p),
-            Call::Recover(g) => recovered(out, board::recover(memory, cache, table, c, g))?,
+            Call::Recover(g) => recovered(out, board::recover(memory, cache, table, c, g)),
             Call::NewForm(call) => call.answer(
                 out,
                 Lent {
@@ -136,7 +135,7 @@ impl Call {
                     table,
                     controller: c,
                 },
-            )?,
-        })
+            ),
+        }
     }
 }

@@ -3,7 +3,6 @@ use crate::bench::Lent;
 use crate::calls::recovered;
 use crate::text::Line;
 use board::{Answer, Geometry};
-use std::io;
 use std::io::Stdout;
 
 #[derive(Clone, Copy)]
@@ -30,18 +29,18 @@ impl Call {
         })
     }
 
-    pub fn answer(self, out: Stdout, lent: Lent<'_>) -> io::Result<Answer> {
+    pub fn answer(self, out: Stdout, lent: Lent<'_>) -> Answer {
         let Lent {
             memory,
             cache,
             table,
             controller: c,
         } = lent;
-        Ok(match self {
+        match self {
             Call::Format { g, fill, p } => header::format(memory, cache, table, c, g, fill, p),
-            Call::Recover(g) => recovered(out, header::recover(memory, cache, table, c, g))?,
+            Call::Recover(g) => recovered(out, header::recover(memory, cache, table, c, g)),
             Call::Up { g, p } => header::move_up(memory, cache, table, c, g, p),
             Call::Back { g, p } => header::move_back(memory, cache, table, c, g, p),
-        })
+        }
     }
 }

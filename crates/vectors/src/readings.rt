@@ -3,7 +3,6 @@ use crate::bench::Lent;
 use crate::print::{Hex, Part};
 use crate::text::Line;
 use crate::wiring;
-use std::io;
 use std::io::Stdout;
 
 #[derive(Clone, Copy)]
@@ -27,7 +26,7 @@ pub enum Reading {
 }
 
 // The number, then the destination, which holds the byte dd before. It has at most one byte more than the board gives.
-fn load(out: Stdout, lent: Lent<'_>, block: usize, offset: usize, len: usize) -> io::Result<()> {
+fn load(out: Stdout, lent: Lent<'_>, block: usize, offset: usize, len: usize) {
     let Lent {
         memory,
         cache,
@@ -37,15 +36,15 @@ fn load(out: Stdout, lent: Lent<'_>, block: usize, offset: usize, len: usize) ->
     let mut space = [0xdd; 65];
     let into = &mut space[..len.min(65)];
     let number = board::load(memory, cache, table, controller, block, offset, into);
-    print!(out; " {}", u64::from(number))?;
+    let _ = print!(out; " {}", u64::from(number));
     if into.is_empty() {
-        return Ok(());
+        return;
     }
-    print!(out; " {}", Hex(into))
+    let _ = print!(out; " {}", Hex(into));
 }
 
 // The number, then the length of what is peeked, its first word and its last.
-fn peek(out: Stdout, lent: Lent<'_>, block: usize) -> io::Result<()> {
+fn peek(out: Stdout, lent: Lent<'_>, block: usize) {
     let Lent {
         memory,
         cache,
@@ -56,7 +55,7 @@ fn peek(out: Stdout, lent: Lent<'_>, block: usize) -> io::Result<()> {
     let bytes = board::peek(memory, cache, table, controller, block);
     let first = Part::new(bytes, 0, 1);
     let last = Part::new(bytes, (bytes.len() / 8).saturating_sub(1), 1);
-    print!(out; " {} {}{first}{last}", u64::from(number), bytes.len())
+    let _ = print!(out; " {} {}{first}{last}", u64::from(number), bytes.len());
 }
 
 impl Reading {
@@ -82,19 +81,20 @@ impl Reading {
         })
     }
 
-    pub fn print(self, out: Stdout, lent: Lent<'_>) -> io::Result<()> {
+    pub fn print(self, out: Stdout, lent: Lent<'_>) {
         match self {
             Reading::Load { block, offset, len } => load(out, lent, block, offset, len),
             Reading::Peek(block) => peek(out, lent, block),
             Reading::Wire(block) => wiring::print(out, lent, block),
-            Reading::Registers => print!(out; "{}", Part::new(&lent.controller.registers, 0, 8)),
-            Reading::Memory { start, count } => {
-                print!(out; "{}", Part::new(lent.memory, start, count))
+            Reading::Registers => {
+                let _ = print!(out; "{}", Part::new(&lent.controller.registers, 0, 8));
             }
-            Reading::Cache { start, count } => print!(out;
-                "{}",
-                Part::new(lent.cache, start, count)
-            ),
+            Reading::Memory { start, count } => {
+                let _ = print!(out; "{}", Part::new(lent.memory, start, count));
+            }
+            Reading::Cache { start, count } => {
+                let _ = print!(out; "{}", Part::new(lent.cache, start, count));
+            }
         }
     }
 }

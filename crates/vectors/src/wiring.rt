@@ -1,7 +1,6 @@
 // Wire records: a line's, and what is printed of one that is read on what is lent.
 use crate::bench::Lent;
 use crate::text::Line;
-use std::io;
 use std::io::Stdout;
 use wires::{Found, Wire};
 
@@ -14,7 +13,7 @@ pub fn wire_in(line: Line<'_>) -> Wire {
 }
 
 // The number, then the current, the latch, the test and the class where there is a record.
-pub fn print(out: Stdout, lent: Lent<'_>, block: usize) -> io::Result<()> {
+pub fn print(out: Stdout, lent: Lent<'_>, block: usize) {
     let Lent {
         memory,
         cache,
@@ -22,14 +21,14 @@ pub fn print(out: Stdout, lent: Lent<'_>, block: usize) -> io::Result<()> {
         controller,
     } = lent;
     let reading = wires::read(memory, cache, table, controller, block);
-    print!(out; " {}", wires::number_of(reading))?;
+    let _ = print!(out; " {}", wires::number_of(reading));
     let Ok(Found { wire, class }) = reading else {
-        return Ok(());
+        return;
     };
-    print!(out;
+    let _ = print!(out;
         " {} {} {} {class}",
         wire.current,
         u8::from(wire.latch),
         u8::from(wire.test)
-    )
+    );
 }

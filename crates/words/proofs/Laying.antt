@@ -1,7 +1,7 @@
 -- Lists laid under an allowance: one after another, word by word, and a run of words as one copy of bytes.
 use mathlib.Core.Path.{◌≡◌, refl, sym, ap, ◌∙◌}
 use mathlib.Core.List.{List, [], ◌∷◌, ◌++◌, append_assoc, append-nil}
-use Prim.Native.Nat.{ℕ, zero, suc, ◌+◌, ◌*◌, ◌-◌, ◌≤◌, ◌<◌, min}
+use Prim.Native.Nat.{ℕ, zero, suc, ◌+◌, ◌*◌, ◌-◌, ◌≤◌, ◌<◌, min, ◌/◌}
 use native.Mathlib.Omega.{arith}
 use native.Mathlib.Nat.{zero-add, zero-sub, sub-zero, suc-sub-suc, min-zero, zero-min, suc-min-suc}
 use native.Mathlib.Numerals.{add-one, towards_suc}
@@ -120,6 +120,16 @@ pub lays_number : (p place x : ℕ) (bytes : List ℕ) {memory memory' : List �
     → Lays p (bytes_to place 1 bytes) memory memory' r → Lays p (numbers_to place (x ∷ [])) memory memory' r
 unfolding numbers_to number_bytes bytes_to little_endian
 lays_number p place x bytes e l = rw e at l
+
+-- one number, and no allowance
+pub lays_none : (place x : ℕ) (memory : List ℕ) → Lays 0 (numbers_to place (x ∷ [])) memory memory 1
+unfolding numbers_to number_bytes bytes_to lay
+lays_none place x memory = record { words = refl; bytes = refl }
+
+pub length-little_endian : (n x : ℕ) → length (little_endian n x) ≡ n
+unfolding little_endian
+length-little_endian zero x = refl
+length-little_endian (suc n) x = ap suc (length-little_endian n (x / 256))
 
 -- ---- a copy, byte by byte
 

@@ -23,13 +23,25 @@ pub fn lay_bytes(part: &mut [u8], place: usize, bytes: &[u8], count: usize, p: u
     count
 }
 
-// A block where the allowance is enough. Its length is left open here: where this is used on an array, the length is known and so is what lies apart.
+// A part's bytes as one array: a copy of a slice is compiled with a test that the slices don't lie over one another.
+fn put_array<const N: usize>(part: &mut [u8], bytes: [u8; N])
+    requires { length part.old ≡ N }
+    ensures { part.new ≡ bytes.entry }
+{
+    if let Some(room) = part.as_mut_array::<N>() {
+        *room = bytes;
+    }
+}
+
+// A block where the allowance is enough: it is read whole before it is stored.
 pub fn lay_block(part: &mut [u8], place: usize, block: &[u8]) -> usize
     requires { (8 * (place + 8) ≤ length part.old) × (length block.now ≡ 64) }
     ensures { (p : ℕ) → 8 ≤ p → Lays p (bytes_to place 8 block.now) part.old part.new result }
 {
-    put_bytes(part, 8 * place, block, block.len());
-    block.len() / 8
+    let start = 8 * place;
+    let kept = *block.first_chunk::<64>().unwrap();
+    put_array(&mut part[start..start + 64], kept);
+    8
 }
 
 pub fn fill_words(part: &mut [u8], place: usize, count: usize, fill: u8, p: usize) -> usize
@@ -53,8 +65,11 @@ pub fn lay_number(part: &mut [u8], place: usize, value: u64, p: usize) -> usize
     requires { 8 * place + 8 ≤ length part.old }
     ensures { Lays p (numbers_to place (value ∷ [])) part.old part.new result }
 {
-    let word = word_bytes(value);
-    lay_bytes(part, place, &word, 1, p)
+    let start = 8 * place;
+    if 0 < p {
+        put_array(&mut part[start..start + 8], word_bytes(value));
+    }
+    1
 }
 
 #[tactic(auto, using(crate::proofs::Bytes::word_read), unfolding(crate::specs::Words::word))]
@@ -62,8 +77,8 @@ pub fn number_at(part: &[u8], place: usize) -> u64
     requires { 8 * place + 8 ≤ length part.now }
     ensures { result ≡ number (word part.now place) }
 {
-    let mut bytes = [0; 8];
-    copy_part(part, 8 * place, &mut bytes);
+    let start = 8 * place;
+    let bytes = *part[start..start + 8].first_chunk::<8>().unwrap();
     u64::from_le_bytes(bytes)
 }
 

@@ -21,7 +21,7 @@ loop-slot-preserved c =
     let a = c.args in
     let l = c.loop-slot in
     turn_more a.part.now a.g _ a.g.slots l.slot _ _ c.loop-slot-test.true l.auto.slot c.number_at.ensures
-    (c.take_word.ensures (drop l.slot (numbers a.part.now 8 a.g.slots)) l.invariant.1) c.if-not-take_word.false l.invariant.0
+    (c.take.ensures (drop l.slot (numbers a.part.now 8 a.g.slots)) l.invariant.1) c.if-not-take.false l.invariant.0
 
 pub returns : goal.returns
 returns c =
@@ -29,9 +29,9 @@ returns c =
     let e : c.loop-slot.slot ≡ 0 = omega arith in
     sym (subst (λ (n : ℕ). sound a.g (drop n (numbers a.part.now 8 a.g.slots)) ≡ true) e c.loop-slot.invariant.0)
 
-pub returns-then-not-take_word : goal.returns-then-not-take_word
-returns-then-not-take_word c =
+pub returns-then-not-take : goal.returns-then-not-take
+returns-then-not-take c =
     let a = c.args in
     let l = c.loop-slot in
     turn_fails a.part.now a.g _ a.g.slots l.slot _ _ c.loop-slot-test.true l.auto.slot c.number_at.ensures
-    (c.take_word.ensures (drop l.slot (numbers a.part.now 8 a.g.slots)) l.invariant.1) c.if-not-take_word.true
+    (c.take.ensures (drop l.slot (numbers a.part.now 8 a.g.slots)) l.invariant.1) c.if-not-take.true

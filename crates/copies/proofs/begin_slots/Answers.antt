@@ -11,8 +11,8 @@ pub loop-slot-init : goal.loop-slot-init
 unfolding copies lay
 loop-slot-init c = (refl, refl)
 
-pub copy_slot-requires : goal.copy_slot-requires
-copy_slot-requires c =
+pub copy_whole-requires : goal.copy_whole-requires
+copy_whole-requires c =
     let a = c.args in
     let ready = c.requires.0 in
     let l = c.loop-slot in
@@ -26,7 +26,7 @@ loop-slot-preserved c =
     let t = a.table.now in
     let h = c.loop-slot-test.true in
     let e : get_or l.table l.slot 0 ≡ get_or t l.slot 0 = ap (λ (z : List ℕ). get_or z l.slot 0) l.invariant.1 ∙ not_reached (changed begun) t l.slot in
-    let x = c.copy_slot.ensures in (
+    let x = c.copy_whole.ensures in (
       lay_more a.g a.cache.now t l.slot a.memory.now h l.invariant.0 (rw e at x),
       rw (c.begun_word.ensures, e, l.invariant.1) (one_word_more (changed begun) t l.slot h),
     )

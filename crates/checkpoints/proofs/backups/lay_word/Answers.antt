@@ -1,4 +1,4 @@
-use Rattle.std.proofs.Common.{◌≡◌, length, rules}
+use mathlib.Core.Path.{refl}
 use mathlib.Core.List.{map}
 use native.Mathlib.Omega.{arith}
 use lib.ListN.{length-map}
@@ -10,8 +10,7 @@ use Rattle.checkpoints.proofs.backups.lay_word.Goals as goal
 pub returns-then-index-lt-REGISTER_WORDS : goal.returns-then-index-lt-REGISTER_WORDS
 returns-then-index-lt-REGISTER_WORDS c =
     let a = c.args in
-    let e : 64 ≡ length a.registers.now = search rules in
-    lays_register a.place a.mark a.registers.now (map (changed saved) a.table.now) a.index 64 c.if-index-lt-REGISTER_WORDS.true e c.lay_bytes.ensures
+    lays_register a.place a.mark a.registers.now (map (changed saved) a.table.now) a.index _ c.if-index-lt-REGISTER_WORDS.true refl c.lay_bytes.ensures
 
 pub returns-then-slot-table : goal.returns-then-slot-table
 returns-then-slot-table c =

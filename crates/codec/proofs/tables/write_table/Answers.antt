@@ -6,10 +6,10 @@ use Rattle.codec.proofs.tables.write_table.Goals as goal
 
 pub loop-slot-init : goal.loop-slot-init
 unfolding number_bytes
-loop-slot-init c = refl
+loop-slot-init c = (refl, refl)
 
 pub loop-slot-preserved : goal.loop-slot-preserved
 loop-slot-preserved c =
     let a = c.args in
     let l = c.loop-slot in
-    write_turn a.table.now a.bytes.now l.bytes l.slot c.requires (omega arith) l.invariant c.lay_number.ensures
+    (omega arith, write_turn a.table.now a.bytes.now l.bytes l.slot c.requires (omega arith) l.invariant.1 c.lay_number.ensures)

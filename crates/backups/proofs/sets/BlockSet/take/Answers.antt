@@ -4,7 +4,7 @@ use Prim.Native.Nat.{ℕ}
 use borrow.Author.Tests.{not-false}
 use Rattle.backups.proofs.Sound.{took_free, took_twice, took_new, named_low}
 use Rattle.std.proofs.lemmas.Bool.{not_from_true}
-use Rattle.backups.proofs.take_word.Goals as goal
+use Rattle.backups.proofs.sets.BlockSet.take.Goals as goal
 
 pub returns-then-word-eq0 : goal.returns-then-word-eq0
 returns-then-word-eq0 c = λ (after : List ℕ) m. took_free _ _ after _ (sym c.clean_word.ensures ∙ not-false _ (not_from_true _ c.if-not-clean_word.false)) c.if-word-eq0.true m
